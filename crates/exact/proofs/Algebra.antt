@@ -1,0 +1,7 @@
+pub mod Integers
+pub mod Polynomials
+pub mod Reading
+pub mod Ring
+pub mod Signs
+pub mod SignRules
+pub mod Tests

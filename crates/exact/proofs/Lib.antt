@@ -1,0 +1,10 @@
+pub mod Booleans
+pub mod Lists
+pub mod Vertices
+pub mod Algebra
+pub mod Geometry
+pub mod Theorems
+pub mod Numbers
+pub mod Determinants
+pub mod Vectors
+pub mod Verdicts

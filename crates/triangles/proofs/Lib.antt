@@ -1,0 +1,5 @@
+pub mod Words
+pub mod Digits
+pub mod Rows
+pub mod Apart
+pub mod Worked

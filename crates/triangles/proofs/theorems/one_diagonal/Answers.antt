@@ -1,0 +1,7 @@
+use Rattle.exact.proofs.Theorems.{one-diagonal}
+use Rattle.triangles.specs.Promise.{One-diagonal}
+use Rattle.triangles.proofs.theorems.one_diagonal.Needs as need
+
+pub returns : need.returns
+unfolding One-diagonal
+returns c = one-diagonal
