@@ -1,6 +1,6 @@
 // The two tests on positions that a generator makes, each position with those before it. Every call is counted once.
 ghost use mathlib.Core.Path.{_≡_};
-ghost use Prim.Native.Nat.{ℕ, _+_};
+ghost use Prim.Native.Nat.{_+_};
 use exact::plane::circle;
 use exact::plane::side;
 use exact::position::LIMIT;

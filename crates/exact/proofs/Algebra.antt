@@ -5,3 +5,4 @@ pub mod Ring
 pub mod Signs
 pub mod SignRules
 pub mod Tests
+pub mod IntegerTests

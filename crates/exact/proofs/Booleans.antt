@@ -1,9 +1,9 @@
 -- Booleans, and the tests of the definitions: what a test says of its parts, and when it passes.
 -- f→ reads the test f, f← shows it; f-false→ and f-false← are for a test that fails.
-use mathlib.Core.Path.{_≡_, refl, sym, _∙_, ap, ap₂, subst}
+use mathlib.Core.Path.{_≡_, refl, sym, _∙_, subst}
 use mathlib.Core.Bool.{Bool, true, false, not, _&&_, true≢false, false≢true}
 use mathlib.Core.Logic.{_⊎_, inl, inr}
-use Prim.Native.Nat.{ℕ, zero, suc, _+_, _*_, _≤_, _<_}
+use Prim.Native.Nat.{ℕ, _≤_, _<_}
 use native.Mathlib.Omega.{arith}
 use lib.Dec.{T, eqb, ltb, leb, ltb→lt, lt→ltb, nltb→le, leb→le, le→leb, nleb→lt, eqb→eq, eqb-refl}
 use Rattle.exact.specs.Plane.{or}

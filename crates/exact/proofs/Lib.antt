@@ -1,5 +1,6 @@
 pub mod Booleans
 pub mod Lists
+pub mod Sums
 pub mod Vertices
 pub mod Algebra
 pub mod Geometry
@@ -8,3 +9,9 @@ pub mod Numbers
 pub mod Determinants
 pub mod Vectors
 pub mod Verdicts
+pub mod Telling
+pub mod Orders
+pub mod Enumerations
+pub mod Walk
+pub mod Statements
+pub mod Numbered

@@ -1,14 +1,14 @@
 -- Lists: being in one, and what `every`, `any`, `those`, `each`, `up-to`, `_++_` and counting say of the elements.
-use mathlib.Core.Path.{_≡_, refl, sym, _∙_, ap, ap₂, subst}
-use mathlib.Core.Bool.{Bool, true, false, not, _&&_, true≢false, false≢true}
+use mathlib.Core.Path.{_≡_, refl, sym, _∙_, ap, ap₂}
+use mathlib.Core.Bool.{Bool, true, false, _&&_, true≢false, false≢true}
 use mathlib.Core.List.{List, [], _∷_, _++_}
 use mathlib.Core.Logic.{_⊎_, inl, inr}
-use Prim.Native.Nat.{ℕ, zero, suc, _+_, _*_, _≤_, _<_}
+use Prim.Native.Nat.{ℕ, zero, suc, _+_, _≤_, _<_}
 use native.Mathlib.Omega.{arith}
 use lib.Dec.{eqb}
 use lib.ListN.{length}
-use Rattle.exact.specs.Plane.{pick, or, every, any, those, each, none-of, up-to}
-use Rattle.exact.proofs.Booleans.{bit, bit-≤1, bit-mono, either, true-false, is-false, and-left, and-right, and←, or→, or-left, or-right, or-false→, or-false←, eqb→, eqb-false→}
+use Rattle.exact.specs.Plane.{pick, every, any, those, each, none-of, up-to}
+use Rattle.exact.proofs.Booleans.{bit, bit-≤1, bit-mono, either, true-false, is-false, and-left, and-right, and←, or→, or-left, or-right, eqb→, eqb-false→}
 
 abbrev pub In : {A : Type 0} → A → List A → Type 0
 In a [] = ⊥
@@ -166,3 +166,18 @@ pub none-of→ : {A : Type 0} (l : List A) → none-of l ≡ true → l ≡ []
 unfolding none-of
 none-of→ [] e = refl
 none-of→ (x ∷ l) e = absurd (false≢true e)
+
+-- ---- lengths
+pub each-length : {A B : Type 0} (f : A → B) (l : List A) → length (each f l) ≡ length l
+unfolding each
+each-length f [] = refl
+each-length f (x ∷ l) = ap suc (each-length f l)
+
+one-more : {A : Type 0} (l : List A) (a : A) → length (l ++ a ∷ []) ≡ suc (length l)
+one-more [] a = refl
+one-more (x ∷ l) a = ap suc (one-more l a)
+
+pub up-to-length : (n : ℕ) → length (up-to n) ≡ n
+unfolding up-to
+up-to-length zero = refl
+up-to-length (suc n) = one-more (up-to n) n ∙ ap suc (up-to-length n)

@@ -1,7 +1,7 @@
 -- Numbers with a sign: their products, and how far these go.
-use mathlib.Core.Path.{_≡_, refl, sym, _∙_, ap}
+use mathlib.Core.Path.{_≡_, refl, sym, _∙_, ap, ap₂}
 use mathlib.Core.Bool.{Bool, true, false, not, Bool·beq}
-use Prim.Native.Nat.{ℕ, zero, suc, _+_, _-_, _*_, _^_, _≤_, _<_}
+use Prim.Native.Nat.{ℕ, suc, _+_, _-_, _*_, _^_, _≤_, _<_}
 use native.Mathlib.Nat.{mul-le-mul, mul-comm}
 use native.Mathlib.Omega.{arith}
 use lib.IntN.{ℤ, pos, negsuc, _-ℤ_, _*ℤ_, negℤ, negℤ-negℤ, *ℤ-comm, natAbs}
@@ -24,6 +24,9 @@ signed-times true true a b =
 signed-times true false a b = sym (negℤ-*ℤ (pos a) (pos b))
 signed-times false true a b = neg-right a b
 signed-times false false a b = refl
+
+pub product-bound : (n a b : ℕ) → n ≡ a * b → (k j : ℕ) → a ≤ k → b ≤ j → n ≤ k * j
+product-bound n a b e k j p q = let h : a * b ≤ k * j = mul-le-mul p q in omega arith
 
 pub signed-natAbs : (z : ℤ) → signed (ltZ z (pos 0)) (natAbs z) ≡ z
 signed-natAbs (pos n) = let e : ltb n 0 ≡ false = grind (arith, tells) in rw e refl
@@ -57,7 +60,7 @@ product-widened a b f g =
     simp (widened a f, widened b g) (toZ-ofZ w128 (a *ℤ b) fits)
 
 -- two words with a sign as they are passed on
-pub product-passed : (r a b : ℤ) → SFits w64 a → SFits w64 b → r ≡ toZ w64 (ofZ w64 a) *ℤ toZ w64 (ofZ w64 b) → r ≡ a *ℤ b
+product-passed : (r a b : ℤ) → SFits w64 a → SFits w64 b → r ≡ toZ w64 (ofZ w64 a) *ℤ toZ w64 (ofZ w64 b) → r ≡ a *ℤ b
 product-passed r a b f g e = simp toZ-ofZ at e
 
 -- the difference of two such products
@@ -74,5 +77,13 @@ module _ (u v : ℤ) (a : negsuc (2 ^ 126 - 2) ≤ℤ u) (b : u ≤ℤ pos (2 ^ 
   pub passed-fits : SFits w128 (toZ w128 (ofZ w128 u) -ℤ toZ w128 (ofZ w128 v))
   passed-fits = simp (toZ-ofZ w128 u left-fits, toZ-ofZ w128 v right-fits) difference-fits
 
-  pub difference-passed : toZ w128 (ofZ w128 (toZ w128 (ofZ w128 u) -ℤ toZ w128 (ofZ w128 v))) ≡ u -ℤ v
+  difference-passed : toZ w128 (ofZ w128 (toZ w128 (ofZ w128 u) -ℤ toZ w128 (ofZ w128 v))) ≡ u -ℤ v
   difference-passed = simp (toZ-ofZ w128 u left-fits, toZ-ofZ w128 v right-fits) (toZ-ofZ w128 (u -ℤ v) difference-fits)
+
+-- a d - b c, from the products u and v and the number w that is made of their difference
+pub determinant-is : (a b c d u v w : ℤ) → SFits w64 a → SFits w64 b → SFits w64 c → SFits w64 d
+    → negsuc (2 ^ 126 - 2) ≤ℤ u → u ≤ℤ pos (2 ^ 126) → negsuc (2 ^ 126 - 2) ≤ℤ v → v ≤ℤ pos (2 ^ 126)
+    → u ≡ toZ w64 (ofZ w64 a) *ℤ toZ w64 (ofZ w64 d) → v ≡ toZ w64 (ofZ w64 b) *ℤ toZ w64 (ofZ w64 c)
+    → w ≡ toZ w128 (ofZ w128 (toZ w128 (ofZ w128 u) -ℤ toZ w128 (ofZ w128 v))) → w ≡ a *ℤ d -ℤ b *ℤ c
+determinant-is a b c d u v w fa fb fc fd ua ub va vb eu ev ew =
+    ew ∙ difference-passed u v ua ub va vb ∙ ap₂ _-ℤ_ (product-passed u a d fa fd eu) (product-passed v b c fb fc ev)

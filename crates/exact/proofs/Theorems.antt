@@ -1,7 +1,7 @@
 -- Two statements that are promised of the plane, unfolded: turning three points keeps the tests of sides and circles, and swapping two turns them round;
 -- and one test of a circle decides between the two diagonals of four points.
-use mathlib.Core.Path.{_≡_, refl}
-use mathlib.Core.Bool.{Bool, true, false}
+use mathlib.Core.Path.{_≡_}
+use mathlib.Core.Bool.{true}
 use Rattle.exact.specs.Plane.{Point, circle, side, above-0, below-0, left-of}
 use Rattle.exact.proofs.Algebra.Tests.{above-same, above-opposite}
 use Rattle.exact.proofs.Geometry.Words.{orient, incircle, Site}

@@ -1,7 +1,7 @@
 -- The integer that a number of two words and a sign stands for.
 use mathlib.Core.Bool.{Bool, true, false}
 use Prim.Native.Nat.{ℕ, _+_, _*_}
-use lib.IntN.{ℤ, pos, negsuc, negℤ}
+use lib.IntN.{ℤ, pos, negℤ}
 use lib.Signed.{ltZ}
 use Rattle.exact.specs.Plane.{pick}
 use Rattle.exact.specs.declared.signed.Sign.{Sign}

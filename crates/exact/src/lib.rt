@@ -2,5 +2,7 @@
 pub mod plane;
 pub mod position;
 pub mod signed;
+#[cfg(test)]
+mod tests;
 pub mod vector;
 pub mod verdict;

@@ -4,6 +4,7 @@ ghost use mathlib.Core.Logic.{_⊎_};
 ghost use Prim.Native.Nat.{_^_, _<_, _≤_};
 ghost use Rattle.std.specs.Options.{Cases as BySome};
 
+// Coordinates are below 2^20, so that a product of two differences fits a word.
 pub const LIMIT: u64 = 1048576;
 
 #[derive(Clone, Copy)]

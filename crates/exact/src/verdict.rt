@@ -1,5 +1,7 @@
 // What the two tests of the plane answer.
 
+mod asked;
+
 // Of a line, from one point to another.
 #[derive(Clone, Copy, PartialEq, Eq, Debug)]
 pub enum Side {

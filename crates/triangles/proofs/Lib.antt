@@ -3,3 +3,4 @@ pub mod Digits
 pub mod Rows
 pub mod Apart
 pub mod Worked
+pub mod Entries

@@ -11,6 +11,8 @@ use Rattle.exact.specs.Plane.{pick, every, any, Point, point, circle, above-0, 
 use Rattle.triangles.specs.House.{Command, insert, remove, locate, nearest, all-faces, around, hull, clear}
 use Rattle.triangles.specs.declared.Reply.{Reply}
 use Rattle.triangles.specs.declared.Reply.the-variants.{Inside, On, Outside, Refused}
+use Rattle.dcel.specs.Layout.{real}
+use Rattle.triangles.specs.Machine.{machine}
 use Rattle.triangles.specs.Promise.{Engine, Event, said, next, Act, shows, done, refused, Step}
 use Rattle.triangles.specs.declared.Told.{Told}
 use Rattle.triangles.specs.declared.Told.the-variants.{Shows, Done, No}
@@ -30,9 +32,9 @@ Circle-says p q r s false a = a ≡ Refused 1
 abbrev pub circle-fits : (xs : List ℕ) → Bool
 circle-fits xs = every (λ n. ltb n 4096) xs
 
--- THE MACHINE ITSELF. What stands here now does nothing; the machine that is grown puts its own in its place, and Whole is owed of that.
+-- THE MACHINE ITSELF, at its size: 16,384 vertices with coordinates below 2^20
 unfoldable pub own : Engine
-own = record { start = []; step = λ m ev. record { memory = m; act = refused 2 } }
+own = machine real
 
 -- 0 insert, 1 remove, 2 locate, 3 nearest, 4 all faces, 5 around, 6 hull, 7 clear, 8 go on
 unfoldable pub event-of : ℕ → ℕ → ℕ → ℕ → Event

@@ -1,5 +1,7 @@
 pub mod House
 pub mod Promise
+pub mod Machine
+pub mod Outcome
 pub mod Entry
 pub mod Request
 pub mod Line

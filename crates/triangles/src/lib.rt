@@ -4,6 +4,8 @@ ghost use mathlib.Core.Path.{_≡_};
 ghost use Rattle.exact.specs.Plane.{point};
 ghost use Rattle.triangles.specs.Entry.{Circle-says, circle-fits, Step-says, step-fits, smaller};
 ghost use Rattle.triangles.specs.Small.{Small-told};
+use crate::machine::run;
+use crate::machine::tell;
 use exact::plane::circle;
 use exact::plane::side;
 use exact::position::Position;
@@ -12,6 +14,7 @@ use exact::verdict::Side;
 
 pub mod examples;
 pub mod line;
+mod machine;
 pub mod request;
 pub mod theorems;
 
@@ -33,7 +36,7 @@ pub enum Told {
 }
 
 // How many words of memory the machine is lent, all 0 at the start.
-pub const MEMORY: usize = 0;
+pub const MEMORY: usize = 540688;
 
 // The kinds of what can be told are numbered up to this one, which is to go on.
 pub const GO_ON: u64 = 8;
@@ -93,7 +96,8 @@ pub fn step(memory: &mut [u64], kind: u64, a: u64, b: u64, c: u64, out: &mut [u6
     let true = out.len() >= ROW else {
         return Told::No(0);
     };
-    Told::No(2)
+    let outcome = run(memory, kind, a, b, c);
+    tell(outcome, out)
 }
 
 // The smaller of two counts.

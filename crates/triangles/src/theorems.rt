@@ -1,5 +1,33 @@
 // What is shown of the definitions alone: each function's contract is a theorem.
-ghost use Rattle.triangles.specs.Promise.{Turns, One-diagonal, Stay-apart, Come-and-gone};
+ghost use Rattle.triangles.specs.Promise.{Only-one, All-used, Local-suffices, Nearest-joined, Turns, One-diagonal, Stay-apart, Come-and-gone};
+
+// Without four vertices on an empty circle there is only one Delaunay triangulation.
+pub fn only_one() -> u8
+    ensures { λ _. ⌜ Only-one ⌝ }
+{
+    0
+}
+
+// All vertices are in triangles, if they aren't on one line, and how many triangles there are.
+pub fn all_used() -> u8
+    ensures { λ _. ⌜ All-used ⌝ }
+{
+    0
+}
+
+// If no vertex is in a triangle but at its corners, it's enough to look across edges.
+pub fn local_suffices() -> u8
+    ensures { λ _. ⌜ Local-suffices ⌝ }
+{
+    0
+}
+
+// The only nearest of a vertex is joined to it.
+pub fn nearest_joined() -> u8
+    ensures { λ _. ⌜ Nearest-joined ⌝ }
+{
+    0
+}
 
 // Circle and side don't depend on where one begins; the other way round, the signs are turned.
 pub fn turns() -> u8

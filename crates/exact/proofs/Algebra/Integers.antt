@@ -1,10 +1,10 @@
 -- The ring laws of ℤ that the library lacks, and the integer that a difference stands for.
-use mathlib.Core.Path.{_≡_, refl, sym, _∙_, ap, ap₂}
-use Prim.Native.Nat.{ℕ, zero, suc, _+_, _*_, _≤_, _<_}
+use mathlib.Core.Path.{_≡_, _∙_, ap, ap₂}
+use Prim.Native.Nat.{ℕ, _+_, _*_}
 use native.Mathlib.Omega.{arith}
-use lib.IntN.{ℤ, pos, negsuc, _+ℤ_, _-ℤ_, _*ℤ_, negℤ, +ℤ-assoc, +ℤ-comm, +ℤ-idl, +ℤ-idr, *ℤ-comm, zero-*ℤ, *ℤ-zero}
+use lib.IntN.{ℤ, pos, _+ℤ_, _-ℤ_, _*ℤ_, negℤ, *ℤ-comm}
 use borrow.Author.Differences.{ints, up, down, same-in, sum-is, neg-is, product-is}
-use Rattle.exact.specs.Plane.{Diff, diff, plus, minus, times}
+use Rattle.exact.specs.Plane.{Diff, plus, minus, times}
 
 up-times : (a b : ℤ) → up (a *ℤ b) ≡ up a * up b + down a * down b
 up-times a b = product-is a b .0

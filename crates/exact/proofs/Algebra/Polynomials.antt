@@ -2,11 +2,11 @@
 -- Zeros are pruned everywhere, so a polynomial whose value is always 0 computes to `none`.
 use mathlib.Core.Path.{_≡_, refl, sym, _∙_, ap, ap₂}
 use mathlib.Core.List.{List, [], _∷_}
-use Prim.Native.Nat.{ℕ, zero, suc, _+_, _*_}
+use Prim.Native.Nat.{zero, suc}
 use native.Mathlib.Omega.{arith}
-use lib.IntN.{ℤ, pos, negsuc, _+ℤ_, _-ℤ_, _*ℤ_, negℤ, +ℤ-assoc, +ℤ-comm, +ℤ-idl, +ℤ-idr, *ℤ-comm, zero-*ℤ, *ℤ-zero, negℤ-+ℤ}
+use lib.IntN.{ℤ, pos, negsuc, _+ℤ_, _-ℤ_, _*ℤ_, negℤ, +ℤ-assoc, +ℤ-idl, +ℤ-idr, *ℤ-comm, zero-*ℤ, *ℤ-zero}
 use borrow.Author.Differences.{ints}
-use Rattle.exact.proofs.Algebra.Integers.{*ℤ-assoc, *ℤ-+ℤ, +ℤ-*ℤ, +ℤ-exchange, negℤ-*ℤ}
+use Rattle.exact.proofs.Algebra.Integers.{*ℤ-assoc, *ℤ-+ℤ, +ℤ-*ℤ, +ℤ-exchange}
 
 pub data Polynomial : Type 0 where
   none : Polynomial

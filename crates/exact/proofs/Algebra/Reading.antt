@@ -1,8 +1,8 @@
 -- Reading an integer as a polynomial. `search` does it: one rule to an operation, and rules for where an integer stands in the list of variables.
-use mathlib.Core.Path.{_≡_, refl, sym, _∙_, ap, ap₂}
-use mathlib.Core.List.{List, [], _∷_}
-use Prim.Native.Nat.{ℕ, zero, suc, _+_, _*_}
-use lib.IntN.{ℤ, pos, negsuc, _+ℤ_, _-ℤ_, _*ℤ_, negℤ, +ℤ-idl}
+use mathlib.Core.Path.{_≡_, sym, _∙_, ap, ap₂}
+use mathlib.Core.List.{List, _∷_}
+use Prim.Native.Nat.{ℕ, _+_, _*_}
+use lib.IntN.{ℤ, pos, _+ℤ_, _-ℤ_, _*ℤ_, negℤ, +ℤ-idl}
 use Rattle.exact.specs.Plane.{Diff, diff, plus, minus, times}
 use Rattle.exact.proofs.Algebra.Integers.{value, value-plus, value-minus, value-times}
 use Rattle.exact.proofs.Algebra.Polynomials.{Polynomial, none, eval, as-number, add, subtract, multiply, variable, later, eval-as-number, eval-add, eval-subtract, eval-multiply, eval-variable, eval-later}

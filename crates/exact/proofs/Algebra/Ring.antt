@@ -1,10 +1,10 @@
 -- Identities of integers by computing: `ring (the variables) (search integers depth 20) refl`.
-use mathlib.Core.Path.{_≡_, refl, sym, _∙_, ap}
-use mathlib.Core.List.{List, [], _∷_}
+use mathlib.Core.Path.{_≡_, sym, _∙_, ap}
+use mathlib.Core.List.{List}
 use native.Mathlib.Omega.{arith}
-use lib.IntN.{ℤ, pos, _+ℤ_, _-ℤ_, _*ℤ_, negℤ}
+use lib.IntN.{ℤ, pos, _-ℤ_}
 use borrow.Author.Differences.{ints}
-use Rattle.exact.proofs.Algebra.Polynomials.{Polynomial, none, eval}
+use Rattle.exact.proofs.Algebra.Polynomials.{none, eval}
 use Rattle.exact.proofs.Algebra.Reading.{Known, known-sum, known-product, known-negative, known-0, known-1, known-2, listed-here, listed-later, known-variable}
 
 difference-0 : (a b : ℤ) → a -ℤ b ≡ pos 0 → a ≡ b

@@ -1,12 +1,12 @@
 -- Signs of integers: `Sign true z` is 0 < z, `Sign false z` is 0 ≤ z; what is below 0 is written by negℤ.
-use mathlib.Core.Path.{_≡_, refl, sym, _∙_, ap, ap₂, subst}
-use mathlib.Core.Bool.{Bool, true, false, not, _&&_}
+use mathlib.Core.Path.{_≡_, refl, sym, _∙_, ap, subst}
+use mathlib.Core.Bool.{Bool, true, false, _&&_}
 use mathlib.Core.Logic.{_⊎_, inl, inr}
-use Prim.Native.Nat.{ℕ, zero, suc, _+_, _*_, _≤_, _<_}
+use Prim.Native.Nat.{ℕ, zero, suc, _+_, _*_, _≤_}
 use native.Mathlib.Omega.{arith}
 use native.Mathlib.Nat.{mul-le-mul}
-use lib.IntN.{ℤ, pos, negsuc, _+ℤ_, _-ℤ_, _*ℤ_, negℤ, *ℤ-comm, negℤ-negℤ, negℤ-+ℤ, zero-*ℤ, *ℤ-zero}
-use borrow.Author.Differences.{ints, up, down, same-in, sum-is, neg-is, product-is}
+use lib.IntN.{ℤ, pos, negsuc, _+ℤ_, _*ℤ_, negℤ, *ℤ-comm, negℤ-negℤ, zero-*ℤ, *ℤ-zero}
+use borrow.Author.Differences.{ints, up, down, same-in, sum-is, neg-is}
 use Rattle.exact.specs.Plane.{or}
 use Rattle.exact.proofs.Algebra.Integers.{negℤ-*ℤ}
 use Rattle.exact.proofs.Booleans.{bit}

@@ -1,10 +1,10 @@
 -- The tests `above-0` and `below-0` of a difference, and the sign of its value.
-use mathlib.Core.Path.{_≡_, refl, sym, _∙_, ap, ap₂}
-use mathlib.Core.Bool.{Bool, true, false}
-use Prim.Native.Nat.{ℕ, _+_, _*_, _-_, _≤_, _<_}
+use mathlib.Core.Path.{_≡_, _∙_, ap, ap₂}
+use mathlib.Core.Bool.{true, false}
+use Prim.Native.Nat.{ℕ, _-_, _<_}
 use native.Mathlib.Omega.{arith}
 use lib.Dec.{ltb}
-use lib.IntN.{ℤ, pos, _+ℤ_, _*ℤ_, negℤ}
+use lib.IntN.{pos, _+ℤ_, negℤ}
 use borrow.Author.Differences.{up, down, same-in, neg-is}
 use Rattle.exact.specs.Plane.{Diff, plus, times, above-0, below-0}
 use Rattle.exact.proofs.Booleans.{same-test, ltb→, ltb←, ltb-false→, ltb-false←}

@@ -1,16 +1,16 @@
 -- What is strictly between two sites: which way it lies, what it is apart from, and the two parts of the edge.
-use mathlib.Core.Path.{_≡_, refl, sym, _∙_, ap}
-use mathlib.Core.Bool.{Bool, true, false}
-use mathlib.Core.Logic.{_⊎_, inl, inr}
+use mathlib.Core.Path.{_≡_, sym, _∙_, ap}
+use mathlib.Core.Bool.{Bool, true}
+use mathlib.Core.Logic.{inl, inr}
 use native.Mathlib.Omega.{arith}
-use lib.IntN.{ℤ, pos, _+ℤ_, _-ℤ_, _*ℤ_, negℤ, negℤ-negℤ, *ℤ-comm}
+use lib.IntN.{ℤ, pos, _+ℤ_, _-ℤ_, _*ℤ_, negℤ, negℤ-negℤ}
 use borrow.Author.Differences.{ints}
 use Rattle.exact.specs.Plane.{Point}
-use Rattle.exact.proofs.Algebra.Signs.{Sign, _⊙_, _⊞_, _by_, weak, split, split-below, is-zero, strict-or-zero, clash, clash-below, clash-zero, zero-sign, zero-sign-neg, left-zero, right-zero, neg-left, cancel, cancel-neg, cancel-zero, left-factor, times-neg, neg-times}
-use Rattle.exact.proofs.Geometry.Words.{X, Y, W, orient, incircle, dist², dot, Within, InSegment, Site, Orient, Incircle, Dist², Dot, Height, Left, Right, LeftOn, RightOn, On, Apart, Same, InTriangle, Inside, Between, dist²-sign, signs, W-sign, W-site, W-one, W-times}
-use Rattle.exact.proofs.Geometry.Identities.Sides.{turn, swap, swap-place, orders}
-use Rattle.exact.proofs.Geometry.Triangles.{apart-swap}
-use Rattle.exact.proofs.Geometry.Identities.Dots.{dist²-swap, dot-swap, dot-same, lagrange, three-terms-dot, dot-step-place, dot-line-ca, dot-line-bc, dist²-sum, dot-onward, weigh-ends}
+use Rattle.exact.proofs.Algebra.Signs.{Sign, _⊙_, _⊞_, _by_, split, left-zero, right-zero, neg-right, cancel, cancel-neg, cancel-zero, left-factor, times-neg}
+use Rattle.exact.proofs.Geometry.Words.{W, orient, dot, InSegment, Site, Orient, Dist², Dot, Left, LeftOn, RightOn, On, Apart, Between, signs, W-site}
+use Rattle.exact.proofs.Geometry.Identities.Sides.{turn, turn-place, swap, swap-place, orders}
+use Rattle.exact.proofs.Geometry.Triangles.{left-apart, apart-swap}
+use Rattle.exact.proofs.Geometry.Identities.Dots.{dot-swap, dot-same, lagrange, three-terms-dot, dot-step-place, dist²-sum, dot-onward, weigh-ends}
 
 -- ---- a place x strictly between a and b
 pub segment-swap : (a b : Site) (x : Point) → InSegment (a .at) (b .at) x → InSegment (b .at) (a .at) x
@@ -23,13 +23,15 @@ segment-forward a b x w h = let o = h .opposite in cancel w (search signs by dot
 -- it is strictly left of the other two sides of a triangle on a b
 pub segment-left-ca : (a b c : Site) (x : Point) → Sign true (W x) → Left a b c → InSegment (a .at) (b .at) x → Sign true (orient (c .at) (a .at) x)
 segment-left-ca a b c x w t h =
-    let o = h .on in let f = segment-forward a b x w h in
-    left-factor (orient (c .at) (a .at) x) (Dist² a b) (search signs by dot-line-ca a b c x) (search signs)
+    let f = segment-forward a b x w h ⊙ t in let z = right-zero (Dot a c b) (orient (a .at) (b .at) x) (h .on) in
+    cancel (left-apart a b c t by dot-same (a .at) (b .at)) (omega (arith, ints, three-terms-dot (a .at) (b .at) x (b .at) (c .at))) by turn-place c a x
 
 pub segment-left-bc : (a b c : Site) (x : Point) → Sign true (W x) → Left a b c → InSegment (a .at) (b .at) x → Sign true (orient (b .at) (c .at) x)
 segment-left-bc a b c x w t h =
-    let o = h .on in let f = segment-forward b a x w (segment-swap a b x h) in
-    left-factor (orient (b .at) (c .at) x) (Dist² a b) (search signs by dot-line-bc a b c x) (search signs)
+    let ba = segment-swap a b x h in
+    let f = neg-right (dot (b .at) x (a .at)) (Orient b a c) in let g = segment-forward b a x w ba ⊙ (t by sym (swap a b c)) in let z = right-zero (Dot b c a) (orient (b .at) (a .at) x) (ba .on) in
+    cancel-neg (orient (b .at) x (c .at)) (apart-swap a b (left-apart a b c t) by dot-same (b .at) (a .at)) (omega (arith, ints, three-terms-dot (b .at) (a .at) x (a .at) (c .at)))
+    by (swap-place b c x ∙ ap negℤ (turn-place c b x))
 
 -- ---- sites
 pub between-swap : (a b z : Site) → Between a b z → Between b a z

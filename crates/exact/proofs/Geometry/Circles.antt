@@ -1,13 +1,13 @@
 -- Circles and what is in a triangle, on the line of an edge, beyond an edge, or on two circles.
-use mathlib.Core.Path.{_≡_, refl, sym, _∙_, ap}
-use mathlib.Core.Bool.{Bool, true, false}
+use mathlib.Core.Path.{_≡_, sym, _∙_, ap}
+use mathlib.Core.Bool.{true, false}
 use mathlib.Core.Logic.{_⊎_, inl, inr}
 use native.Mathlib.Omega.{arith}
-use lib.IntN.{ℤ, pos, _+ℤ_, _-ℤ_, _*ℤ_, negℤ, negℤ-negℤ, *ℤ-comm}
+use lib.IntN.{ℤ, pos, _+ℤ_, _*ℤ_, negℤ}
 use borrow.Author.Differences.{ints}
 use Rattle.exact.specs.Plane.{Point}
-use Rattle.exact.proofs.Algebra.Signs.{Sign, _⊙_, _⊞_, _by_, weak, split, split-below, is-zero, strict-or-zero, clash, clash-below, clash-zero, zero-sign, zero-sign-neg, left-zero, right-zero, neg-left, cancel, cancel-neg, cancel-zero, left-factor, times-neg, neg-times}
-use Rattle.exact.proofs.Geometry.Words.{X, Y, W, orient, incircle, dist², dot, Within, InSegment, Site, Orient, Incircle, Dist², Dot, Height, Left, Right, LeftOn, RightOn, On, Apart, Same, InTriangle, Inside, Between, dist²-sign, signs, W-sign, W-site, W-one, W-times}
+use Rattle.exact.proofs.Algebra.Signs.{Sign, _⊙_, _by_, weak, split, is-zero, strict-or-zero, clash, right-zero, cancel, cancel-zero, times-neg}
+use Rattle.exact.proofs.Geometry.Words.{W, orient, incircle, dist², Within, Site, Orient, Incircle, Dist², Left, RightOn, On, Apart, Same, InTriangle, Between, dist²-sign, signs, W-site}
 use Rattle.exact.proofs.Geometry.Identities.Sides.{weights-place}
 use Rattle.exact.proofs.Geometry.Identities.Circles.{circle-weights-place, circle-line, pencil, cross, corner-on, two-circles, circle-by-corners-site}
 use Rattle.exact.proofs.Geometry.Betweenness.{beyond-dot}

@@ -1,13 +1,15 @@
 -- Distances: what is no farther than its neighbours is no farther than what is in their cone, and the nearest is inside a circle.
-use mathlib.Core.Path.{_≡_, refl, sym, _∙_, ap}
-use mathlib.Core.Bool.{Bool, true, false}
-use mathlib.Core.Logic.{_⊎_, inl, inr}
+use mathlib.Core.Path.{_≡_, refl}
+use mathlib.Core.Bool.{true, false}
+use mathlib.Core.List.{[], _∷_}
+use mathlib.Core.Logic.{inl, inr}
 use native.Mathlib.Omega.{arith}
-use lib.IntN.{ℤ, pos, _+ℤ_, _-ℤ_, _*ℤ_, negℤ, negℤ-negℤ, *ℤ-comm}
+use lib.IntN.{_+ℤ_, _-ℤ_, negℤ}
 use borrow.Author.Differences.{ints}
-use Rattle.exact.specs.Plane.{Point}
-use Rattle.exact.proofs.Algebra.Signs.{Sign, _⊙_, _⊞_, _by_, weak, split, split-below, is-zero, strict-or-zero, clash, clash-below, clash-zero, zero-sign, zero-sign-neg, left-zero, right-zero, neg-left, cancel, cancel-neg, cancel-zero, left-factor, times-neg, neg-times}
-use Rattle.exact.proofs.Geometry.Words.{X, Y, W, orient, incircle, dist², dot, Within, InSegment, Site, Orient, Incircle, Dist², Dot, Height, Left, Right, LeftOn, RightOn, On, Apart, Same, InTriangle, Inside, Between, dist²-sign, signs, W-sign, W-site, W-one, W-times}
+use Rattle.exact.proofs.Algebra.Ring.{ring}
+use Rattle.exact.proofs.Algebra.Signs.{Sign, _by_, split, cancel}
+use Rattle.exact.proofs.Geometry.Words.{Site, Orient, Incircle, Dist², Dot, Left, LeftOn, Apart, Between, signs}
+use Rattle.exact.proofs.Geometry.Reading.{sites, geometry}
 use Rattle.exact.proofs.Geometry.Identities.Circles.{circle-cone, circle-distances}
 use Rattle.exact.proofs.Geometry.Circles.{in-circle}
 
@@ -22,3 +24,10 @@ near-inside v a b z vab vaz bvz na nb vz az bz = elim (split (negℤ (Orient a b
   | inl h ↦ search signs by circle-cone v a b z
   | inr h ↦ in-circle v a b z vab (record { ab = vaz; bc = omega (arith, ints); ca = bvz }) vz az bz
 ]
+
+-- what is between a and b is nearer to a than b is
+dist²-parts-between : (a b z : Site) → Dist² a b -ℤ Dist² a z ≡ Dist² z b +ℤ (negℤ (Dot z a b) +ℤ negℤ (Dot z a b))
+dist²-parts-between a b z = ring (sites (a ∷ b ∷ z ∷ [])) (search geometry depth 20) refl
+
+pub between-nearer : (a b z : Site) → Between a b z → Sign true (Dist² a b -ℤ Dist² a z)
+between-nearer a b z h = let o = h .opposite in search signs by dist²-parts-between a b z

@@ -1,23 +1,30 @@
 -- A triangle of a list of vertices: what `a-triangle`, `in-tri`, `inside-tri` and `empty-circle` say by signs, and its turning corners.
 use mathlib.Core.Path.{_≡_, refl, sym, _∙_, ap, subst}
 use mathlib.Core.Bool.{Bool, true, false, not, _&&_}
-use mathlib.Core.List.{List, [], _∷_}
+use mathlib.Core.List.{List}
 use mathlib.Core.Logic.{_⊎_, inl, inr}
-use Prim.Native.Nat.{ℕ, _+_, _≤_, _<_}
+use Prim.Native.Nat.{ℕ, _<_}
 use native.Mathlib.Omega.{arith}
-use lib.Dec.{eqb, ltb}
+use lib.Dec.{ltb}
 use lib.ListN.{length}
-use lib.IntN.{ℤ, pos, negℤ}
-use Rattle.exact.specs.Plane.{or, every, Point, Vertex, vertex-at, spot, Tri, left-of, right-of, inside-circle, a-triangle, in-tri, inside-tri, empty-circle, in-hull, all-left, all-numbers}
-use Rattle.exact.proofs.Booleans.{either, and-left, and-right, and←, and3←, or-left, or-right, not→, not←, ltb→, ltb←}
+use lib.IntN.{ℤ, negℤ}
+use Rattle.exact.specs.Plane.{Point, Vertex, vertex-at, spot, Tri, left-of, inside-circle, a-triangle, in-tri, inside-tri, empty-circle}
+use Rattle.exact.proofs.Booleans.{and-left, and-right, and←, not→, not←, ltb→, ltb←}
 use Rattle.exact.proofs.Lists.{every→, every←}
 use Rattle.exact.proofs.Vertices.{vertex-in, vertex-number, site, Turn, at-one, at-two, at-three, next, corner, Rot, rot₁, rot₂, rot₃}
 use Rattle.exact.proofs.Algebra.Signs.{Sign, _by_, split-below, clash-zero}
 use Rattle.exact.proofs.Geometry.Words.{orient, incircle, Within, Site}
-use Rattle.exact.proofs.Geometry.Tests.{left→, left←, right→, not-right→, not-right←, not-inside-circle→, not-inside-circle←, closed→, closed←, inner→, inner←}
+use Rattle.exact.proofs.Geometry.Tests.{left→, left←, not-inside-circle→, not-inside-circle←, closed→, closed←, inner→, inner←}
 use Rattle.exact.proofs.Geometry.Triangles.{within-turn}
 use Rattle.exact.proofs.Geometry.Identities.Sides.{turn, start-on, end-on}
 use Rattle.exact.proofs.Geometry.Identities.Circles.{circle-turn-place}
+
+-- twice its area, and its circle
+abbrev pub area : List Vertex → Tri → ℤ
+area vs t = orient (spot vs (t .one)) (spot vs (t .two)) (spot vs (t .three))
+
+abbrev pub incircle-of : List Vertex → Tri → Point → ℤ
+incircle-of vs t x = incircle (spot vs (t .one)) (spot vs (t .two)) (spot vs (t .three)) x
 
 -- ---- a triangle as a record
 pub record Triangle (vs : List Vertex) (t : Tri) : Type 0 where
@@ -25,7 +32,7 @@ pub record Triangle (vs : List Vertex) (t : Tri) : Type 0 where
   pub least-three : t .one < t .three
   pub two-below : t .two < length vs
   pub three-below : t .three < length vs
-  pub turns-left : Sign true (orient (spot vs (t .one)) (spot vs (t .two)) (spot vs (t .three)))
+  pub turns-left : Sign true (area vs t)
 
 module _ (vs : List Vertex) (t : Tri) where
   pub a-triangle→ : a-triangle vs t ≡ true → Triangle vs t
@@ -69,11 +76,11 @@ module _ (vs : List Vertex) (t : Tri) where
   abbrev pub in-its : Vertex → Bool
   in-its v = inside-circle (spot vs (t .one)) (spot vs (t .two)) (spot vs (t .three)) (v .at)
 
-  pub empty-circle→ : empty-circle vs t ≡ true → (k : ℕ) → k < length vs → Sign false (negℤ (incircle (spot vs (t .one)) (spot vs (t .two)) (spot vs (t .three)) (spot vs k)))
+  pub empty-circle→ : empty-circle vs t ≡ true → (k : ℕ) → k < length vs → Sign false (negℤ (incircle-of vs t (spot vs k)))
   empty-circle→ h k l =
       not-inside-circle→ (spot vs (t .one)) (spot vs (t .two)) (spot vs (t .three)) (spot vs k) (not→ (in-its (vertex-at vs k)) (every→ (λ v. not (in-its v)) vs h (vertex-at vs k) (vertex-in vs k l)))
 
-  pub empty-circle← : ((k : ℕ) → k < length vs → Sign false (negℤ (incircle (spot vs (t .one)) (spot vs (t .two)) (spot vs (t .three)) (spot vs k)))) → empty-circle vs t ≡ true
+  pub empty-circle← : ((k : ℕ) → k < length vs → Sign false (negℤ (incircle-of vs t (spot vs k)))) → empty-circle vs t ≡ true
   empty-circle← h = every← (λ v. not (in-its v)) vs (λ v i.
       let r = vertex-number vs v i in
       subst (λ (u : Vertex). not (in-its u) ≡ true) (r .2) (not← (in-its (vertex-at vs (r .0))) (not-inside-circle← (spot vs (t .one)) (spot vs (t .two)) (spot vs (t .three)) (spot vs (r .0)) (h (r .0) (r .1)))))
@@ -95,12 +102,12 @@ module _ (vs : List Vertex) (t : Tri) where
   rot-below a b c rot₃ g = g .three-below
 
   module _ (ones : (i : ℕ) → spot vs i .w ≡ 1) where
-    pub rot-orient : (a b c : ℕ) → Rot t a b c → orient (spot vs a) (spot vs b) (spot vs c) ≡ orient (spot vs (t .one)) (spot vs (t .two)) (spot vs (t .three))
+    pub rot-orient : (a b c : ℕ) → Rot t a b c → orient (spot vs a) (spot vs b) (spot vs c) ≡ area vs t
     rot-orient a b c rot₁ = refl
     rot-orient a b c rot₂ = sym (turn (site vs ones (t .one)) (site vs ones (t .two)) (site vs ones (t .three)))
     rot-orient a b c rot₃ = turn (site vs ones (t .three)) (site vs ones (t .one)) (site vs ones (t .two))
 
-    pub rot-circle : (a b c : ℕ) → Rot t a b c → (x : Point) → incircle (spot vs a) (spot vs b) (spot vs c) x ≡ incircle (spot vs (t .one)) (spot vs (t .two)) (spot vs (t .three)) x
+    pub rot-circle : (a b c : ℕ) → Rot t a b c → (x : Point) → incircle (spot vs a) (spot vs b) (spot vs c) x ≡ incircle-of vs t x
     rot-circle a b c rot₁ x = refl
     rot-circle a b c rot₂ x = sym (circle-turn-place (site vs ones (t .one)) (site vs ones (t .two)) (site vs ones (t .three)) x)
     rot-circle a b c rot₃ x = circle-turn-place (site vs ones (t .three)) (site vs ones (t .one)) (site vs ones (t .two)) x

@@ -1,13 +1,12 @@
 -- Flipping: the edge a b of the triangles a b c and b a d becomes d c. And chords of a circle, which are the same with all four on it.
-use mathlib.Core.Path.{_≡_, refl, sym, _∙_, ap}
-use mathlib.Core.Bool.{Bool, true, false}
+use mathlib.Core.Path.{_≡_, sym, _∙_, ap}
+use mathlib.Core.Bool.{true, false}
 use mathlib.Core.Logic.{_⊎_, inl, inr}
 use native.Mathlib.Omega.{arith}
-use lib.IntN.{ℤ, pos, _+ℤ_, _-ℤ_, _*ℤ_, negℤ, negℤ-negℤ, *ℤ-comm}
+use lib.IntN.{ℤ, _+ℤ_, _-ℤ_, negℤ, negℤ-negℤ}
 use borrow.Author.Differences.{ints}
-use Rattle.exact.specs.Plane.{Point}
-use Rattle.exact.proofs.Algebra.Signs.{Sign, _⊙_, _⊞_, _by_, weak, split, split-below, is-zero, strict-or-zero, clash, clash-below, clash-zero, zero-sign, zero-sign-neg, left-zero, right-zero, neg-left, cancel, cancel-neg, cancel-zero, left-factor, times-neg, neg-times}
-use Rattle.exact.proofs.Geometry.Words.{X, Y, W, orient, incircle, dist², dot, Within, InSegment, Site, Orient, Incircle, Dist², Dot, Height, Volume, Left, Right, LeftOn, RightOn, On, Apart, Same, InTriangle, Inside, Between, dist²-sign, signs, W-sign, W-site, W-one, W-times}
+use Rattle.exact.proofs.Algebra.Signs.{Sign, _by_, weak, split, zero-sign, left-factor}
+use Rattle.exact.proofs.Geometry.Words.{Site, Orient, Incircle, Dist², Volume, Left, Right, InTriangle, signs}
 use Rattle.exact.proofs.Geometry.Identities.Sides.{turn, swap, start-on, end-on, orders}
 use Rattle.exact.proofs.Geometry.Identities.Circles.{circle-turn, circle-last-three, circle-across, circle-diagonal, circle-vectors, volume-flip}
 use Rattle.exact.proofs.Geometry.Triangles.{apart-swap, corners-apart, corners-left}

@@ -1,38 +1,45 @@
 -- Outside the hull: the outer edges that p sees, what a new face on an outer edge holds, and where p is in a face that has it.
-use mathlib.Core.Path.{_≡_, refl, sym, _∙_, ap}
-use mathlib.Core.Bool.{Bool, true, false}
+use mathlib.Core.Path.{_≡_, sym, _∙_, ap}
+use mathlib.Core.Bool.{true, false}
 use mathlib.Core.Logic.{_⊎_, inl, inr}
 use native.Mathlib.Omega.{arith}
-use lib.IntN.{ℤ, pos, _+ℤ_, _-ℤ_, _*ℤ_, negℤ, negℤ-negℤ, *ℤ-comm}
+use lib.IntN.{pos, _*ℤ_, negℤ, *ℤ-comm}
 use borrow.Author.Differences.{ints}
-use Rattle.exact.specs.Plane.{Point}
-use Rattle.exact.proofs.Algebra.Signs.{Sign, _⊙_, _⊞_, _by_, weak, split, split-below, is-zero, product-zero, strict-or-zero, clash, clash-below, clash-zero, zero-sign, zero-sign-neg, left-zero, right-zero, neg-left, cancel, cancel-neg, cancel-zero, left-factor, times-neg, neg-times}
-use Rattle.exact.proofs.Geometry.Words.{X, Y, W, orient, incircle, dist², dot, Within, InSegment, Site, Orient, Incircle, Dist², Dot, Height, Left, Right, LeftOn, RightOn, On, Apart, Same, InTriangle, Inside, Between, dist²-sign, signs, W-sign, W-site, W-one, W-times}
+use Rattle.exact.proofs.Algebra.Signs.{Sign, _by_, split, is-zero, product-zero, clash, clash-zero, right-zero, cancel, cancel-neg}
+use Rattle.exact.proofs.Geometry.Words.{Site, Orient, Dot, Left, Right, LeftOn, RightOn, On, Apart, Same, InTriangle, Inside, Between, signs}
 use Rattle.exact.proofs.Geometry.Identities.Sides.{turn, swap, orders, weights, three-terms, seen-edge}
-use Rattle.exact.proofs.Geometry.Identities.Dots.{cone-by-end, cone-by-start}
+use Rattle.exact.proofs.Geometry.Identities.Dots.{dist²-swap, dot-same, three-terms-dot}
 use Rattle.exact.proofs.Geometry.Triangles.{corners-apart, same-not-apart, within-turn}
 
--- ---- c on the line z y, in the cone of z y at p with the ray to z and without the ray to y
--- two different lines meet once
+-- ---- two different lines meet once
 pub meet : (p z y c : Site) → On z y c → On p z c → (On y p c → ⊥) → Same z c
-meet p z y c e f k = elim (product-zero (Orient y p c) (Dist² z c) (is-zero (search signs by cone-by-start p z y c) (search signs by ap negℤ (cone-by-start p z y c)))) [ inl g ↦ absurd (k g) | inr g ↦ g ]
-
-pub on-edge : (p z y c : Site) → On z y c → LeftOn p z c → Right p y c → Same z c ⊎ Between z y c
-on-edge p z y c e pz py = elim (split (Orient p z c)) [
-  | inl h ↦ inr (record { on = e; opposite = opposite h })
-  | inr h ↦ inl (meet p z y c e (is-zero pz h) (clash-zero k))
+meet p z y c e f k = elim (product-zero (Dot c z z) (Orient c y p) flat) [
+  | inl g ↦ dist²-swap (z .at) (c .at) ∙ sym (dot-same (c .at) (z .at)) ∙ g
+  | inr g ↦ absurd (k (sym (turn c y p) ∙ g))
 ]
   where
-    k : Sign true (Orient y p c)
-    k = py by swap y p c
+    flat : Dot c z z *ℤ Orient c y p ≡ pos 0
+    flat =
+        let g : On c z p = omega (arith, ints, orders p z c) in let h : On c y z = omega (arith, ints, orders z y c) in
+        omega (arith, ints, three-terms-dot (c .at) (z .at) (z .at) (y .at) (p .at), right-zero (Dot c y z) (Orient c z p) g, right-zero (Dot c p z) (Orient c y z) h)
 
-    flat : Orient c z y ≡ pos 0
-    flat = turn c z y ∙ e
+-- c is on the line z y, and in the cone of z y at p, with the ray to z and without the ray to y
+pub on-edge : (p z y c : Site) → On z y c → LeftOn p z c → Right p y c → Same z c ⊎ Between z y c
+on-edge p z y c e pz py = elim (split (Orient p z c)) [
+  | inl h ↦ inr (record { on = e; opposite = ends h })
+  | inr h ↦ inl (meet p z y c e (is-zero pz h) (λ g. clash-zero ypc g))
+]
+  where
+    ypc : Left y p c
+    ypc = py by swap y p c
 
-    opposite : Left p z c → Sign true (negℤ (Dot c z y))
-    opposite h =
-        let a : Apart c y = corners-apart y p c k .2 in let f = flat in
-        cancel-neg (Dot c z y) k (search signs by ap negℤ (cone-by-end p z y c))
+    ends : Left p z c → Sign true (negℤ (Dot c z y))
+    ends h =
+        let a : Sign true (Dot c y y) = corners-apart y p c ypc .2 by dot-same (c .at) (y .at) in
+        let f : On c y z = omega (arith, ints, orders z y c) in
+        let g : Right c z p = omega (arith, ints, orders p z c) in
+        let k : Left c y p = ypc by turn c y p in
+        cancel-neg (Dot c z y) k (search signs by ap negℤ (*ℤ-comm (Orient c y p) (Dot c z y) ∙ three-terms-dot (c .at) (y .at) (z .at) (y .at) (p .at)))
 
 -- ---- an outer edge c → d that p sees has its c on the closed edge z → y in whose cone it is, and not at y
 pub unseen : (p z y c d : Site) → RightOn z y c → RightOn c d z → RightOn c d y → Left c d p → LeftOn p z c → Right p y c →

@@ -1,19 +1,21 @@
 -- Sites in the order of a linear function, u · x + v · y: its three terms with `orient`, places at the level of a site, and K · x + y, which tells different sites apart.
-use mathlib.Core.Path.{_≡_, refl, sym, _∙_, ap, ap₂, subst}
+use mathlib.Core.Path.{_≡_, refl, sym, _∙_, ap, ap₂}
 use mathlib.Core.List.{List, [], _∷_}
-use mathlib.Core.Bool.{Bool, true, false}
-use mathlib.Core.Logic.{_⊎_, inl, inr}
+use mathlib.Core.Bool.{true, false}
+use mathlib.Core.Logic.{inl, inr}
 use Prim.Native.Nat.{ℕ, zero, suc, _+_, _*_, _≤_, _<_}
 use native.Mathlib.Omega.{arith}
 use native.Mathlib.Nat.{mul-le-mul-left}
-use lib.Dec.{ltb}
-use lib.IntN.{ℤ, pos, negsuc, _+ℤ_, _-ℤ_, _*ℤ_, negℤ}
+use lib.Dec.{eqb, ltb}
+use lib.ListN.{length}
+use lib.IntN.{ℤ, pos, _+ℤ_, _-ℤ_, _*ℤ_, negℤ}
 use borrow.Author.Differences.{ints}
-use Rattle.exact.specs.Plane.{Point}
-use Rattle.exact.proofs.Booleans.{either, ltb→, ltb-false→}
+use Rattle.exact.specs.Plane.{Point, Vertex, vertex-at, spot, all-apart}
+use Rattle.exact.proofs.Booleans.{either, and←, eqb←, ltb→, ltb-false→}
+use Rattle.exact.proofs.Vertices.{same-number}
 use Rattle.exact.proofs.Algebra.Integers.{negℤ-*ℤ}
 use Rattle.exact.proofs.Algebra.Ring.{ring}
-use Rattle.exact.proofs.Algebra.Signs.{Sign, _⊙_, _by_, cancel, cancel-neg, split, split-below, strict-or-zero}
+use Rattle.exact.proofs.Algebra.Signs.{Sign, _⊙_, _by_, cancel-neg}
 use Rattle.exact.proofs.Geometry.Words.{X, Y, W, orient, Within, Site, Orient, Left, RightOn, signs}
 use Rattle.exact.proofs.Geometry.Reading.{sites, place, made-points}
 use Rattle.exact.proofs.Geometry.Identities.Sides.{turn, start-on, end-on}
@@ -105,3 +107,19 @@ same-digits K a b c d lb ld e = elim (either (ltb a c)) [
 pub level-same : (K : ℕ) (p q : Point) → p .y < K → q .y < K → level (pos K) (pos 1) p ≡ level (pos K) (pos 1) q → (p .x ≡ q .x) × (p .y ≡ q .y)
 unfolding X Y
 level-same K p q lp lq e = same-digits K (p .x) (p .y) (q .x) (q .y) lp lq (omega (arith, ints))
+
+-- ---- so with K above all y of a list, different vertices have different levels
+pub bound-y : (vs : List Vertex) → (K : ℕ) × ((i : ℕ) → i < length vs → spot vs i .y < K)
+unfolding vertex-at
+bound-y [] = (0, λ i l. absurd (omega arith))
+bound-y (v ∷ vs) = (suc (v .at .y) + bound-y vs .0, more (bound-y vs .0) (bound-y vs .1))
+  where
+    more : (K : ℕ) → ((i : ℕ) → i < length vs → spot vs i .y < K) → (i : ℕ) → i < suc (length vs) → vertex-at (v ∷ vs) i .at .y < suc (v .at .y) + K
+    more K h zero l = omega arith
+    more K h (suc i) l = omega (arith, h i (omega arith))
+
+pub levels-apart : (vs : List Vertex) → all-apart vs ≡ true → (K : ℕ) → ((i : ℕ) → i < length vs → spot vs i .y < K) →
+    (i j : ℕ) → i < length vs → j < length vs → level (pos K) (pos 1) (spot vs i) ≡ level (pos K) (pos 1) (spot vs j) → i ≡ j
+levels-apart vs apart K h i j li lj e =
+    let r = level-same K (spot vs i) (spot vs j) (h i li) (h j lj) e in
+    same-number vs apart i j li lj (and← (eqb (spot vs i .x) (spot vs j .x)) (eqb (spot vs i .y) (spot vs j .y)) (eqb← (spot vs i .x) (spot vs j .x) (r .0)) (eqb← (spot vs i .y) (spot vs j .y) (r .1)))

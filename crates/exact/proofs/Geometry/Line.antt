@@ -1,13 +1,12 @@
 -- Sites on one line: which of three is between, and the end v of a line, beyond which nothing is (no z with Between s z v, for its neighbour s).
-use mathlib.Core.Path.{_≡_, refl, sym, _∙_, ap}
-use mathlib.Core.Bool.{Bool, true, false}
+use mathlib.Core.Path.{_≡_, _∙_, ap}
+use mathlib.Core.Bool.{true, false}
 use mathlib.Core.Logic.{_⊎_, inl, inr}
 use native.Mathlib.Omega.{arith}
-use lib.IntN.{ℤ, pos, _+ℤ_, _-ℤ_, _*ℤ_, negℤ, negℤ-negℤ, *ℤ-comm}
+use lib.IntN.{ℤ, pos, _+ℤ_, _*ℤ_, negℤ}
 use borrow.Author.Differences.{ints}
-use Rattle.exact.specs.Plane.{Point}
-use Rattle.exact.proofs.Algebra.Signs.{Sign, _⊙_, _⊞_, _by_, weak, split, split-below, is-zero, strict-or-zero, clash, clash-below, clash-zero, zero-sign, zero-sign-neg, left-zero, right-zero, neg-left, cancel, cancel-neg, cancel-zero, left-factor, times-neg, neg-times}
-use Rattle.exact.proofs.Geometry.Words.{X, Y, W, orient, incircle, dist², dot, Within, InSegment, Site, Orient, Incircle, Dist², Dot, Height, Left, Right, LeftOn, RightOn, On, Apart, Same, InTriangle, Inside, Between, dist²-sign, signs, W-sign, W-site, W-one, W-times}
+use Rattle.exact.proofs.Algebra.Signs.{Sign, _by_, split, clash, right-zero, cancel-neg, cancel-zero}
+use Rattle.exact.proofs.Geometry.Words.{Site, Orient, Dot, Left, RightOn, On, Apart, Between, signs}
 use Rattle.exact.proofs.Geometry.Identities.Sides.{turn, swap, orders, weights}
 use Rattle.exact.proofs.Geometry.Identities.Dots.{dot-swap, dot-same, three-terms-dot, dot-compose, three-dots}
 use Rattle.exact.proofs.Geometry.Triangles.{apart-swap}

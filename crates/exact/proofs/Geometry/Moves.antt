@@ -1,16 +1,16 @@
 -- Small moves: n · p + q in homogeneous coordinates is p moved a little towards q, the less the larger n. `orient` is linear in it, so what is strict stays strict for n past a bound.
-use mathlib.Core.Path.{_≡_, refl, sym, _∙_, ap, ap₂, subst}
-use mathlib.Core.List.{List, [], _∷_}
+use mathlib.Core.Path.{_≡_, refl, _∙_, ap}
+use mathlib.Core.List.{[], _∷_}
 use mathlib.Core.Bool.{Bool, true, false}
-use mathlib.Core.Logic.{_⊎_, inl, inr}
+use mathlib.Core.Logic.{inl, inr}
 use Prim.Native.Nat.{ℕ, zero, suc, _+_, _*_, _≤_, _<_}
 use native.Mathlib.Omega.{arith}
-use lib.IntN.{ℤ, pos, negsuc, _+ℤ_, _-ℤ_, _*ℤ_, negℤ, *ℤ-zero, +ℤ-idl}
+use lib.IntN.{ℤ, pos, negsuc, _+ℤ_, _*ℤ_, negℤ, *ℤ-zero, +ℤ-idl}
 use borrow.Author.Differences.{ints, up, down}
 use Rattle.exact.specs.Plane.{Point}
 use Rattle.exact.proofs.Algebra.Ring.{ring}
-use Rattle.exact.proofs.Algebra.Signs.{Sign, _⊙_, _⊞_, _by_, weak, natural-sign, split-below, clash-below}
-use Rattle.exact.proofs.Geometry.Words.{orient, Within, Site, Orient, Left, W}
+use Rattle.exact.proofs.Algebra.Signs.{Sign, _⊙_, _⊞_, _by_, natural-sign, split-below, clash-below}
+use Rattle.exact.proofs.Geometry.Words.{orient, Within, Site, Left}
 use Rattle.exact.proofs.Geometry.Reading.{places, made-points}
 use Rattle.exact.proofs.Geometry.Identities.Sides.{turn, start-on, end-on}
 

@@ -1,13 +1,12 @@
 -- The power of a place x to a left-turning triangle, incircle / orient: it grows where an edge is crossed, and where it does not, the two circles are one.
-use mathlib.Core.Path.{_≡_, refl, sym, _∙_, ap}
+use mathlib.Core.Path.{_≡_, refl, _∙_}
 use mathlib.Core.Bool.{Bool, true, false}
-use mathlib.Core.Logic.{_⊎_, inl, inr}
 use native.Mathlib.Omega.{arith}
-use lib.IntN.{ℤ, pos, _+ℤ_, _-ℤ_, _*ℤ_, negℤ, negℤ-negℤ, *ℤ-comm}
+use lib.IntN.{ℤ, pos, _+ℤ_, _-ℤ_, _*ℤ_, negℤ, *ℤ-comm}
 use borrow.Author.Differences.{ints}
 use Rattle.exact.specs.Plane.{Point}
-use Rattle.exact.proofs.Algebra.Signs.{Sign, _⊙_, _⊞_, _by_, weak, split, split-below, is-zero, strict-or-zero, clash, clash-below, clash-zero, zero-sign, zero-sign-neg, left-zero, right-zero, neg-left, cancel, cancel-neg, cancel-zero, left-factor, times-neg, neg-times, neg-neg}
-use Rattle.exact.proofs.Geometry.Words.{X, Y, W, orient, incircle, dist², dot, Within, InSegment, Site, Orient, Incircle, Dist², Dot, Height, Left, Right, LeftOn, RightOn, On, Apart, Same, InTriangle, Inside, Between, dist²-sign, signs, W-sign, W-site, W-one, W-times}
+use Rattle.exact.proofs.Algebra.Signs.{Sign, _⊙_, _⊞_, _by_, right-zero, cancel, cancel-zero, neg-neg}
+use Rattle.exact.proofs.Geometry.Words.{W, orient, incircle, Site, Orient, Incircle, Left}
 use mathlib.Core.Path.{ap₂}
 use mathlib.Core.List.{[], _∷_}
 use Rattle.exact.proofs.Algebra.Ring.{ring, integers}

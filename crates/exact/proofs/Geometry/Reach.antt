@@ -1,9 +1,9 @@
 -- Small moves and a list of triangles: moved little enough, a place is in no closed triangle that it was not in, and strictly inside those that it was strictly inside.
-use mathlib.Core.Path.{_≡_, refl, sym, _∙_, ap, subst}
+use mathlib.Core.Path.{_≡_, sym, subst}
 use mathlib.Core.List.{List, [], _∷_}
-use mathlib.Core.Bool.{Bool, true, false}
-use mathlib.Core.Logic.{_⊎_, inl, inr}
-use Prim.Native.Nat.{ℕ, zero, suc, _+_, _≤_, _<_}
+use mathlib.Core.Bool.{true, false}
+use mathlib.Core.Logic.{inl, inr}
+use Prim.Native.Nat.{ℕ, _+_, _≤_}
 use native.Mathlib.Omega.{arith}
 use Rattle.exact.specs.Plane.{Point, Vertex, spot, Tri, in-tri, inside-tri}
 use Rattle.exact.proofs.Booleans.{is-false, true-false}

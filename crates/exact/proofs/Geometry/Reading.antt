@@ -1,12 +1,12 @@
 -- Reading the integers of points as polynomials in their coordinates, and the variables of a list of points. An identity is then proved by one line:
 -- `ring (sites (a ∷ b ∷ [])) (search geometry depth 20) refl`, and with a place x of any w by `ring (place x (sites ..)) ..`.
-use mathlib.Core.Path.{_≡_, refl, sym, _∙_, ap}
+use mathlib.Core.Path.{_≡_, sym, ap}
 use mathlib.Core.List.{List, [], _∷_}
-use Prim.Native.Nat.{ℕ, _+_, _*_}
-use lib.IntN.{ℤ, pos, _+ℤ_, _-ℤ_, _*ℤ_, negℤ}
-use Rattle.exact.specs.Plane.{Point, plus, times, across, along, side, two-by-two, square, circle}
-use Rattle.exact.proofs.Algebra.Polynomials.{Polynomial, number, eval, variable, later, eval-variable, eval-later}
-use Rattle.exact.proofs.Algebra.Reading.{Known, KnownDiff, known-diff, known-diff-plus, known-diff-minus, known-diff-times, known-product, known-plus, known-times, known-first, known-later, known-numeral, listed-here, listed-later, known-variable}
+use Prim.Native.Nat.{ℕ}
+use lib.IntN.{ℤ, pos}
+use Rattle.exact.specs.Plane.{Point, plus, times, across, along, side, square, circle}
+use Rattle.exact.proofs.Algebra.Polynomials.{number, eval}
+use Rattle.exact.proofs.Algebra.Reading.{Known, KnownDiff, known-diff, known-diff-plus, known-diff-minus, known-diff-times, known-product, known-plus, known-times, known-first, known-later, listed-here, listed-later, known-variable}
 use Rattle.exact.proofs.Algebra.Ring.{operations}
 use Rattle.exact.proofs.Geometry.Words.{X, Y, W, Δx, Δy, orient, incircle, dist², dot, Site}
 

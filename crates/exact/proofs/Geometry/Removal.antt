@@ -1,15 +1,14 @@
 -- A vertex v taken out: its spokes v a, v b, v c one after the other to the left. Which spoke can be flipped to a c, and what is left at the end.
-use mathlib.Core.Path.{_≡_, refl, sym, _∙_, ap}
-use mathlib.Core.Bool.{Bool, true, false}
+use mathlib.Core.Path.{sym, _∙_, ap}
+use mathlib.Core.Bool.{true, false}
 use mathlib.Core.Logic.{_⊎_, inl, inr}
 use native.Mathlib.Omega.{arith}
-use lib.IntN.{ℤ, pos, _+ℤ_, _-ℤ_, _*ℤ_, negℤ, negℤ-negℤ, *ℤ-comm}
+use lib.IntN.{_+ℤ_, _-ℤ_, _*ℤ_, negℤ, *ℤ-comm}
 use borrow.Author.Differences.{ints}
-use Rattle.exact.specs.Plane.{Point}
-use Rattle.exact.proofs.Algebra.Signs.{Sign, _⊙_, _⊞_, _by_, weak, split, split-below, is-zero, strict-or-zero, clash, clash-below, clash-zero, zero-sign, zero-sign-neg, left-zero, right-zero, neg-left, cancel, cancel-neg, cancel-zero, left-factor, times-neg, neg-times}
-use Rattle.exact.proofs.Geometry.Words.{X, Y, W, orient, incircle, dist², dot, Within, InSegment, Site, Orient, Incircle, Dist², Dot, Height, Left, Right, LeftOn, RightOn, On, Apart, Same, InTriangle, Inside, Between, dist²-sign, signs, W-sign, W-site, W-one, W-times}
+use Rattle.exact.proofs.Algebra.Signs.{Sign, _by_, split, cancel, cancel-neg, left-factor}
+use Rattle.exact.proofs.Geometry.Words.{Site, Orient, Dist², Dot, Left, Right, LeftOn, RightOn, On, InTriangle, Between, signs}
 use Rattle.exact.proofs.Geometry.Identities.Sides.{turn, swap, start-on, end-on, orders, weights, weigh-line, three-terms, bend-line}
-use Rattle.exact.proofs.Geometry.Identities.Dots.{dot-against, bend}
+use Rattle.exact.proofs.Geometry.Identities.Dots.{dot-swap, dot-same, three-terms-dot, bend}
 use Rattle.exact.proofs.Geometry.Triangles.{left-apart, corners-apart, within-turn}
 use Rattle.exact.proofs.Geometry.Betweenness.{between-swap}
 use Rattle.exact.proofs.Geometry.Flip.{flip-in-left, flip-in-right}
@@ -91,10 +90,13 @@ bend-after v a b c d vbc abc vca vcd vda cad =
     cancel vca (search signs by weigh-line v c a b c (d .at))
 
 -- b, c, d in turn, d on the line v b: then v is between b and d
-pub opposite : (v b c d : Site) → Left v b c → Left v c d → On v b d → Between b d v
-opposite v b c d vbc vcd e = record {
+pub between-opposite : (v b c d : Site) → Left v b c → Left v c d → On v b d → Between b d v
+between-opposite v b c d vbc vcd e = record {
   on = omega (arith, ints, orders v b d);
-  opposite = let vb = left-apart v b c vbc in cancel-neg (Dot v b d) vbc (search signs by ap negℤ (dot-against v b c d));
+  opposite =
+      let vb : Sign true (Dot v b b) = left-apart v b c vbc by dot-same (v .at) (b .at) in
+      let vdc : Right v d c = omega (arith, ints, orders v c d) in
+      cancel-neg (Dot v d b) vbc (search signs by ap negℤ (*ℤ-comm (Orient v b c) (Dot v d b) ∙ three-terms-dot (v .at) (b .at) (d .at) (b .at) (c .at))) by ap negℤ (dot-swap (v .at) (b .at) (d .at));
 }
 
 -- of the tests of a and of c one at least holds, where d comes first after c and e last before a

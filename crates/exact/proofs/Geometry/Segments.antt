@@ -1,18 +1,19 @@
 -- The test `on-segment`: on the segment and no end of it is strictly between the ends.
 use mathlib.Core.Path.{_≡_, refl, sym, _∙_, ap, ap₂}
-use mathlib.Core.List.{List, [], _∷_}
+use mathlib.Core.List.{[], _∷_}
 use mathlib.Core.Bool.{Bool, true, false, _&&_}
-use mathlib.Core.Logic.{_⊎_, inl, inr}
-use Prim.Native.Nat.{ℕ, _+_, _*_, _≤_}
+use mathlib.Core.Logic.{inl, inr}
+use Prim.Native.Nat.{ℕ, _*_, _≤_}
 use native.Mathlib.Omega.{arith}
 use lib.Dec.{leb}
-use lib.IntN.{ℤ, pos, _+ℤ_, _-ℤ_, _*ℤ_, negℤ}
+use lib.IntN.{pos, _+ℤ_, _-ℤ_, _*ℤ_, negℤ}
 use borrow.Author.Differences.{ints}
-use Rattle.exact.specs.Plane.{Point, or, in-line, between, on-segment}
+use Rattle.exact.specs.Plane.{in-line, between, on-segment}
 use Rattle.exact.proofs.Booleans.{and-left, and-right, and←, and3→, and3←, or→, or-left, or-right, leb→, leb←}
 use Rattle.exact.proofs.Algebra.Ring.{ring}
 use Rattle.exact.proofs.Algebra.Signs.{Sign, _⊙_, _by_, split, clash, cancel-neg}
-use Rattle.exact.proofs.Geometry.Words.{X, Y, Site, Orient, Dist², Dot, On, Apart, Between, signs}
+use Rattle.exact.proofs.Geometry.Words.{X, Y, Δx, Δy, Site, Orient, Dist², Dot, Apart, Between, signs}
+use Rattle.exact.proofs.Geometry.Identities.Dots.{dot-Δ, Δx-site, Δy-site}
 use Rattle.exact.proofs.Geometry.Reading.{sites, geometry}
 use Rattle.exact.proofs.Geometry.Tests.{in-line→, in-line←}
 use Rattle.exact.proofs.Geometry.Triangles.{apart-swap}
@@ -56,19 +57,10 @@ between← a b z h = elim (split (pos a -ℤ pos z)) [
     rising l m = or-left (leb a z && leb z b) (leb b z && leb z a) (and← (leb a z) (leb z b) (leb← a z l) (leb← z b m))
 
 -- ---- both coordinates, by the product
-abbrev dx : Site → Site → ℤ
-dx z a = X (a .at) -ℤ X (z .at)
-
-abbrev dy : Site → Site → ℤ
-dy z a = Y (a .at) -ℤ Y (z .at)
-
-dot-parts : (z a b : Site) → Dot z a b ≡ dx z a *ℤ dx z b +ℤ dy z a *ℤ dy z b
-dot-parts z a b = ring (sites (z ∷ a ∷ b ∷ [])) (search geometry depth 20) refl
-
-dot-x : (z a b : Site) → Dist² z a *ℤ (dx z a *ℤ dx z b) ≡ Dot z a b *ℤ (dx z a *ℤ dx z a) -ℤ dx z a *ℤ dy z a *ℤ Orient a b z
+dot-x : (z a b : Site) → Dist² z a *ℤ (Δx (z .at) (a .at) *ℤ Δx (z .at) (b .at)) ≡ Dot z a b *ℤ (Δx (z .at) (a .at) *ℤ Δx (z .at) (a .at)) -ℤ Δx (z .at) (a .at) *ℤ Δy (z .at) (a .at) *ℤ Orient a b z
 dot-x z a b = ring (sites (z ∷ a ∷ b ∷ [])) (search geometry depth 20 fits 5000) refl
 
-dot-y : (z a b : Site) → Dist² z a *ℤ (dy z a *ℤ dy z b) ≡ Dot z a b *ℤ (dy z a *ℤ dy z a) +ℤ dx z a *ℤ dy z a *ℤ Orient a b z
+dot-y : (z a b : Site) → Dist² z a *ℤ (Δy (z .at) (a .at) *ℤ Δy (z .at) (b .at)) ≡ Dot z a b *ℤ (Δy (z .at) (a .at) *ℤ Δy (z .at) (a .at)) +ℤ Δx (z .at) (a .at) *ℤ Δy (z .at) (a .at) *ℤ Orient a b z
 dot-y z a b = ring (sites (z ∷ a ∷ b ∷ [])) (search geometry depth 20 fits 5000) refl
 
 times-one : (n w : ℕ) → w ≡ 1 → n * w ≡ n
@@ -88,28 +80,20 @@ module _ (a b z : Site) where
   y-is : y? ≡ between (a .at .y) (b .at .y) (z .at .y)
   y-is = ap₂ (λ (m n : ℕ). between m n (z .at .y)) (times-one (a .at .y) (z .at .w) (z .whole)) (times-one (b .at .y) (z .at .w) (z .whole))
 
-  x→ : x? ≡ true → Sign false (negℤ (dx z a *ℤ dx z b))
+  Δx-is : Δx (z .at) (a .at) *ℤ Δx (z .at) (b .at) ≡ (pos (a .at .x) -ℤ pos (z .at .x)) *ℤ (pos (b .at .x) -ℤ pos (z .at .x))
   unfolding X
-  x→ e = between→ (a .at .x) (b .at .x) (z .at .x) (sym x-is ∙ e)
+  Δx-is = ap₂ _*ℤ_ (Δx-site z a) (Δx-site z b)
 
-  y→ : y? ≡ true → Sign false (negℤ (dy z a *ℤ dy z b))
+  Δy-is : Δy (z .at) (a .at) *ℤ Δy (z .at) (b .at) ≡ (pos (a .at .y) -ℤ pos (z .at .y)) *ℤ (pos (b .at .y) -ℤ pos (z .at .y))
   unfolding Y
-  y→ e = between→ (a .at .y) (b .at .y) (z .at .y) (sym y-is ∙ e)
-
-  x← : Sign false (negℤ (dx z a *ℤ dx z b)) → x? ≡ true
-  unfolding X
-  x← h = x-is ∙ between← (a .at .x) (b .at .x) (z .at .x) h
-
-  y← : Sign false (negℤ (dy z a *ℤ dy z b)) → y? ≡ true
-  unfolding Y
-  y← h = y-is ∙ between← (a .at .y) (b .at .y) (z .at .y) h
+  Δy-is = ap₂ _*ℤ_ (Δy-site z a) (Δy-site z b)
 
   pub on-segment→ : on-segment (a .at) (b .at) (z .at) ≡ true → Apart a z → Apart b z → Between a b z
   on-segment→ e az bz =
       let t = and3→ (in-line (a .at) (b .at) (z .at)) x? y? e in
       let line = in-line→ (a .at) (b .at) (z .at) (t .0) in
-      let x₀ = x→ (t .1) in let y₀ = y→ (t .2) in
-      let below : Sign false (negℤ (Dot z a b)) = search signs by ap negℤ (dot-parts z a b) in
+      let x₀ = between→ (a .at .x) (b .at .x) (z .at .x) (sym x-is ∙ t .1) by ap negℤ Δx-is in let y₀ = between→ (a .at .y) (b .at .y) (z .at .y) (sym y-is ∙ t .2) by ap negℤ Δy-is in
+      let below : Sign false (negℤ (Dot z a b)) = search signs by ap negℤ (dot-Δ (z .at) (a .at) (b .at)) in
       elim (split (negℤ (Dot z a b))) [
         | inl h ↦ record { on = line; opposite = h }
         | inr h ↦ absurd (clash (beyond-dot a b z line az bz (λ m. clash (m .opposite) h)) below)
@@ -118,6 +102,6 @@ module _ (a b z : Site) where
   pub on-segment← : Between a b z → on-segment (a .at) (b .at) (z .at) ≡ true
   on-segment← h =
       let o = h .on in let d = h .opposite in let za = apart-swap a z (between-start-apart a b z h) in
-      let x₀ : Sign false (negℤ (dx z a *ℤ dx z b)) = cancel-neg (dx z a *ℤ dx z b) za (search signs by ap negℤ (dot-x z a b)) in
-      let y₀ : Sign false (negℤ (dy z a *ℤ dy z b)) = cancel-neg (dy z a *ℤ dy z b) za (search signs by ap negℤ (dot-y z a b)) in
-      and3← (in-line (a .at) (b .at) (z .at)) x? y? (in-line← (a .at) (b .at) (z .at) o) (x← x₀) (y← y₀)
+      let x₀ : Sign false (negℤ (Δx (z .at) (a .at) *ℤ Δx (z .at) (b .at))) = cancel-neg (Δx (z .at) (a .at) *ℤ Δx (z .at) (b .at)) za (search signs by ap negℤ (dot-x z a b)) in
+      let y₀ : Sign false (negℤ (Δy (z .at) (a .at) *ℤ Δy (z .at) (b .at))) = cancel-neg (Δy (z .at) (a .at) *ℤ Δy (z .at) (b .at)) za (search signs by ap negℤ (dot-y z a b)) in
+      and3← (in-line (a .at) (b .at) (z .at)) x? y? (in-line← (a .at) (b .at) (z .at) o) (x-is ∙ between← (a .at .x) (b .at .x) (z .at .x) (x₀ by ap negℤ (sym Δx-is))) (y-is ∙ between← (a .at .y) (b .at .y) (z .at .y) (y₀ by ap negℤ (sym Δy-is)))

@@ -1,13 +1,12 @@
 -- Splitting: a face a b c at p strictly inside, an edge a b at p strictly between its ends.
-use mathlib.Core.Path.{_≡_, refl, sym, _∙_, ap}
-use mathlib.Core.Bool.{Bool, true, false}
+use mathlib.Core.Path.{sym}
+use mathlib.Core.Bool.{true}
 use mathlib.Core.Logic.{_⊎_, inl, inr}
 use native.Mathlib.Omega.{arith}
-use lib.IntN.{ℤ, pos, _+ℤ_, _-ℤ_, _*ℤ_, negℤ, negℤ-negℤ, *ℤ-comm}
+use lib.IntN.{_+ℤ_, _*ℤ_, negℤ, negℤ-negℤ}
 use borrow.Author.Differences.{ints}
-use Rattle.exact.specs.Plane.{Point}
-use Rattle.exact.proofs.Algebra.Signs.{Sign, _⊙_, _⊞_, _by_, weak, split, split-below, is-zero, strict-or-zero, clash, clash-below, clash-zero, zero-sign, zero-sign-neg, left-zero, right-zero, neg-left, cancel, cancel-neg, cancel-zero, left-factor, times-neg, neg-times}
-use Rattle.exact.proofs.Geometry.Words.{X, Y, W, orient, incircle, dist², dot, Within, InSegment, Site, Orient, Incircle, Dist², Dot, Height, Left, Right, LeftOn, RightOn, On, Apart, Same, InTriangle, Inside, Between, dist²-sign, signs, W-sign, W-site, W-one, W-times}
+use Rattle.exact.proofs.Algebra.Signs.{Sign, _by_, weak, split, zero-sign}
+use Rattle.exact.proofs.Geometry.Words.{Site, Orient, Left, Right, InTriangle, Inside, Between, signs}
 use Rattle.exact.proofs.Geometry.Identities.Sides.{turn, swap, orders, weights, three-directions}
 use Rattle.exact.proofs.Geometry.Triangles.{within-turn, within-weak, first-in, second-in, third-in, triangle-in}
 use Rattle.exact.proofs.Geometry.Betweenness.{front-left, back-left}

@@ -1,18 +1,17 @@
 -- Places swept from left to right: Δx u p is at least 0 if u is not right of p by its x. Edges that pass the level of p, the triangle over them, and two hull edges at one level.
-use mathlib.Core.Path.{_≡_, refl, sym, _∙_, ap, ap₂}
-use mathlib.Core.List.{List, [], _∷_}
-use mathlib.Core.Bool.{Bool, true, false}
+use mathlib.Core.Path.{_≡_, refl, _∙_, ap, ap₂}
+use mathlib.Core.List.{[], _∷_}
+use mathlib.Core.Bool.{true, false}
 use mathlib.Core.Logic.{_⊎_, inl, inr}
-use Prim.Native.Nat.{ℕ}
 use native.Mathlib.Omega.{arith}
 use lib.IntN.{ℤ, pos, _+ℤ_, _-ℤ_, _*ℤ_, negℤ}
 use borrow.Author.Differences.{ints}
 use Rattle.exact.specs.Plane.{Point}
 use Rattle.exact.proofs.Algebra.Ring.{ring}
-use Rattle.exact.proofs.Algebra.Signs.{Sign, _⊙_, _⊞_, _by_, weak, split, is-zero, clash-zero, square-sign, left-zero, right-zero, cancel, cancel-neg, cancel-zero}
+use Rattle.exact.proofs.Algebra.Signs.{Sign, _⊙_, _⊞_, _by_, weak, split, is-zero, clash-zero, square-sign, left-zero, right-zero, cancel, cancel-zero}
 use Rattle.exact.proofs.Geometry.Words.{W, Δx, Δy, orient, Within, Site, Orient, Dot, Dist², Left, LeftOn, On, Same, Between, signs}
+use Rattle.exact.proofs.Geometry.Identities.Dots.{dist²-Δ}
 use Rattle.exact.proofs.Geometry.Reading.{sites, place, geometry}
-use Rattle.exact.proofs.Geometry.Identities.Dots.{dot-swap}
 
 -- ---- identities: a, b, c are sites, x is a place
 module _ (a b c : Site) (x : Point) where
@@ -25,7 +24,7 @@ module _ (a b c : Site) (x : Point) where
   pub sweep-weights : orient (b .at) (c .at) x *ℤ Δx (a .at) x +ℤ orient (c .at) (a .at) x *ℤ Δx (b .at) x +ℤ orient (a .at) (b .at) x *ℤ Δx (c .at) x ≡ pos 0
   sweep-weights = ring (place x (sites (a ∷ b ∷ c ∷ []))) (search geometry depth 20 fits 5000) refl
 
-sweep-orient : (a b : Site) (x : Point) → W x *ℤ orient (a .at) (b .at) x ≡ Δx (a .at) x *ℤ (Δy (a .at) x -ℤ W x *ℤ Δy (a .at) (b .at)) -ℤ Δx (b .at) x *ℤ Δy (a .at) x
+pub sweep-orient : (a b : Site) (x : Point) → W x *ℤ orient (a .at) (b .at) x ≡ Δx (a .at) x *ℤ (Δy (a .at) x -ℤ W x *ℤ Δy (a .at) (b .at)) -ℤ Δx (b .at) x *ℤ Δy (a .at) x
 sweep-orient a b x = ring (place x (sites (a ∷ b ∷ []))) (search geometry depth 20 fits 5000) refl
 
 sweep-step : (a b : Site) (x : Point) → W x *ℤ Δx (a .at) (b .at) ≡ Δx (a .at) x -ℤ Δx (b .at) x
@@ -33,9 +32,6 @@ sweep-step a b x = ring (place x (sites (a ∷ b ∷ []))) (search geometry dept
 
 sweep-dot : (a b c : Site) → Δx (c .at) (b .at) *ℤ negℤ (Dot c a b) ≡ Δx (a .at) (c .at) *ℤ Dist² c b +ℤ Δy (c .at) (b .at) *ℤ Orient a b c
 sweep-dot a b c = ring (sites (a ∷ b ∷ c ∷ [])) (search geometry depth 20 fits 5000) refl
-
-dist²-Δ : (a b : Site) → Dist² a b ≡ Δx (a .at) (b .at) *ℤ Δx (a .at) (b .at) +ℤ Δy (a .at) (b .at) *ℤ Δy (a .at) (b .at)
-dist²-Δ a b = ring (sites (a ∷ b ∷ [])) (search geometry depth 20) refl
 
 sweep-along : (a b c : Site) → Δx (a .at) (b .at) *ℤ Δy (a .at) (c .at) ≡ Orient a b c +ℤ Δy (a .at) (b .at) *ℤ Δx (a .at) (c .at)
 sweep-along a b c = ring (sites (a ∷ b ∷ c ∷ [])) (search geometry depth 20 fits 5000) refl
@@ -93,12 +89,12 @@ module _ (a b c : Site) (x : Point) (i : Within true (a .at) (b .at) (c .at) x) 
 pub on-rising : (a b c : Site) → Sign true (Δx (a .at) (b .at)) → Sign true (Δx (c .at) (b .at)) → Sign false (Δx (a .at) (c .at)) → On a b c → Same a c ⊎ Between a b c
 on-rising a b c ab cb ac z = elim (split (Δx (a .at) (c .at))) [
   | inl h ↦
-      let cb² : Sign true (Dist² c b) = cb ⊙ cb ⊞ square-sign (Δy (c .at) (b .at)) by dist²-Δ c b in
+      let cb² : Sign true (Dist² c b) = cb ⊙ cb ⊞ square-sign (Δy (c .at) (b .at)) by dist²-Δ (c .at) (b .at) in
       inr (record { on = z; opposite = cancel cb (search signs by sweep-dot a b c) })
   | inr h ↦
       let e = is-zero ac h in
       let f : Δy (a .at) (c .at) ≡ pos 0 = cancel-zero ab (sweep-along a b c ∙ ap₂ _+ℤ_ z (right-zero (Δy (a .at) (b .at)) (Δx (a .at) (c .at)) e)) in
-      inl (dist²-Δ a c ∙ ap₂ _+ℤ_ (left-zero (Δx (a .at) (c .at)) (Δx (a .at) (c .at)) e) (left-zero (Δy (a .at) (c .at)) (Δy (a .at) (c .at)) f))
+      inl (dist²-Δ (a .at) (c .at) ∙ ap₂ _+ℤ_ (left-zero (Δx (a .at) (c .at)) (Δx (a .at) (c .at)) e) (left-zero (Δy (a .at) (c .at)) (Δy (a .at) (c .at)) f))
 ]
 
 pub same-start : (a b c d : Site) (x : Point) → Sign true (W x) → Before a x → After b x → Before c x → After d x → Sign false (Δx (a .at) (c .at)) → LeftOn a b c → LeftOn c d a → LeftOn c d b → Same a c ⊎ Between a b c

@@ -1,16 +1,15 @@
 -- Outside the hull: the two tangents from p. Outer edges have everything on their right.
 -- s → v and u → s are seen from p, which is strictly left of them; v → w and t → u are not.
-use mathlib.Core.Path.{_≡_, refl, sym, _∙_, ap}
-use mathlib.Core.Bool.{Bool, true, false}
-use mathlib.Core.Logic.{_⊎_, inl, inr}
+use mathlib.Core.Path.{_≡_, sym, _∙_, ap}
+use mathlib.Core.Bool.{true, false}
+use mathlib.Core.Logic.{inl, inr}
 use native.Mathlib.Omega.{arith}
-use lib.IntN.{ℤ, pos, _+ℤ_, _-ℤ_, _*ℤ_, negℤ, negℤ-negℤ, *ℤ-comm}
+use lib.IntN.{ℤ, pos, _*ℤ_, negℤ, negℤ-negℤ, *ℤ-comm}
 use borrow.Author.Differences.{ints}
-use Rattle.exact.specs.Plane.{Point}
-use Rattle.exact.proofs.Algebra.Signs.{Sign, _⊙_, _⊞_, _by_, weak, split, split-below, is-zero, strict-or-zero, clash, clash-below, clash-zero, zero-sign, zero-sign-neg, left-zero, right-zero, neg-left, cancel, cancel-neg, cancel-zero, left-factor, times-neg, neg-times}
-use Rattle.exact.proofs.Geometry.Words.{X, Y, W, orient, incircle, dist², dot, Within, InSegment, Site, Orient, Incircle, Dist², Dot, Height, Left, Right, LeftOn, RightOn, On, Apart, Same, InTriangle, Inside, Between, dist²-sign, signs, W-sign, W-site, W-one, W-times}
+use Rattle.exact.proofs.Algebra.Signs.{Sign, _⊙_, _by_, split, is-zero, clash, left-zero, neg-left, cancel, cancel-neg, cancel-zero}
+use Rattle.exact.proofs.Geometry.Words.{Site, Orient, Dot, Left, Right, RightOn, On, Apart, Between, signs}
 use Rattle.exact.proofs.Geometry.Identities.Sides.{turn, swap, orders, three-terms}
-use Rattle.exact.proofs.Geometry.Identities.Dots.{dot-swap, dot-same, three-terms-dot, bend}
+use Rattle.exact.proofs.Geometry.Identities.Dots.{dot-swap, dot-same, three-terms-dot}
 use Rattle.exact.proofs.Geometry.Triangles.{left-apart, apart-swap}
 use Rattle.exact.proofs.Geometry.Betweenness.{front-left, front-right, ends-right}
 

@@ -1,5 +1,5 @@
 -- The tests of the definitions and the signs of the words, both ways, for points with any w. f→ reads a test, f← shows it.
-use mathlib.Core.Path.{_≡_, ap}
+use mathlib.Core.Path.{_≡_}
 use mathlib.Core.Bool.{Bool, true, false, not, _&&_}
 use lib.IntN.{pos, negℤ}
 use Rattle.exact.specs.Plane.{Point, side, circle, left-of, right-of, in-line, inside-circle}

@@ -1,14 +1,10 @@
 -- A left-turning triangle: its corners are apart, it holds them, and what has them on one side has it there.
-use mathlib.Core.Path.{_≡_, refl, sym, _∙_, ap}
+use mathlib.Core.Path.{sym}
 use mathlib.Core.Bool.{Bool, true, false}
-use mathlib.Core.Logic.{_⊎_, inl, inr}
-use native.Mathlib.Omega.{arith}
-use lib.IntN.{ℤ, pos, _+ℤ_, _-ℤ_, _*ℤ_, negℤ, negℤ-negℤ, *ℤ-comm}
-use borrow.Author.Differences.{ints}
 use Rattle.exact.specs.Plane.{Point}
-use Rattle.exact.proofs.Algebra.Signs.{Sign, _⊙_, _⊞_, _by_, weak, split, split-below, is-zero, strict-or-zero, clash, clash-below, clash-zero, zero-sign, zero-sign-neg, left-zero, right-zero, neg-left, cancel, cancel-neg, cancel-zero, left-factor, times-neg, neg-times}
-use Rattle.exact.proofs.Geometry.Words.{X, Y, W, orient, incircle, dist², dot, Within, InSegment, Site, Orient, Incircle, Dist², Dot, Height, Left, Right, LeftOn, RightOn, On, Apart, Same, InTriangle, Inside, Between, dist²-sign, signs, W-sign, W-site, W-one, W-times}
-use Rattle.exact.proofs.Geometry.Identities.Sides.{turn, swap, start-on, end-on, weights, weights-place, weigh-line}
+use Rattle.exact.proofs.Algebra.Signs.{Sign, _⊞_, _by_, weak, clash-zero, zero-sign, cancel, left-factor}
+use Rattle.exact.proofs.Geometry.Words.{W, orient, Within, Site, Dist², Left, LeftOn, Apart, Same, InTriangle, signs}
+use Rattle.exact.proofs.Geometry.Identities.Sides.{turn, start-on, end-on, weights-place, weigh-line}
 use Rattle.exact.proofs.Geometry.Identities.Dots.{dist²-swap, lagrange}
 
 -- ---- apart

@@ -1,12 +1,12 @@
 -- The words of the geometry: integers of points that stay shut, points with w = 1, and what is said of them by signs.
 -- orient p q r is above 0 if r is left of p → q; incircle p q r s if s is inside the circle of the left-turning p, q, r; dist² is the squared distance; dot o p q is the product (p − o) · (q − o).
-use mathlib.Core.Path.{_≡_, refl, sym, _∙_, ap}
+use mathlib.Core.Path.{_≡_, _∙_, ap}
 use mathlib.Core.Bool.{Bool, true, false}
-use Prim.Native.Nat.{ℕ, _+_, _*_, _≤_}
+use Prim.Native.Nat.{_≤_}
 use native.Mathlib.Omega.{arith}
-use lib.IntN.{ℤ, pos, _+ℤ_, _-ℤ_, _*ℤ_, negℤ}
+use lib.IntN.{ℤ, pos, _+ℤ_, _*ℤ_, negℤ}
 use borrow.Author.Differences.{ints}
-use Rattle.exact.specs.Plane.{Point, Diff, plus, times, across, along, side, circle, square}
+use Rattle.exact.specs.Plane.{Point, plus, times, across, along, side, circle, square}
 use Rattle.exact.proofs.Algebra.Integers.{value}
 use Rattle.exact.proofs.Algebra.Signs.{Sign}
 use Rattle.exact.proofs.Algebra.SignRules.{integer-signs}

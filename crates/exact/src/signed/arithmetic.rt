@@ -1,7 +1,7 @@
 // What is done with numbers of two words and a sign. Nothing is lost: what could pass two words is ruled out by the bounds that a caller shows.
 ghost use mathlib.Core.Path.{_≡_};
 ghost use Prim.Native.Nat.{ℕ, _+_, _-_, _*_, _^_, _<_, _≤_};
-ghost use lib.IntN.{ℤ, pos, negsuc, _+ℤ_, _-ℤ_, _*ℤ_, negℤ, natAbs};
+ghost use lib.IntN.{ℤ, pos, negsuc, _+ℤ_, _-ℤ_, _*ℤ_, negℤ};
 ghost use lib.Signed.{_<ℤ_, _≤ℤ_};
 ghost use Rattle.std.specs.Orderings.{Ranked};
 ghost use Rattle.exact.specs.Signed.{integer, size, signed as with-sign, sign-of};
@@ -39,7 +39,8 @@ impl Signed {
     }
 
     fn of(v: i128) -> Signed
-        ensures { λ r. ⌜ integer r ≡ v ⌝ }
+        ensures value { λ r. ⌜ integer r ≡ v ⌝ }
+        ensures size { λ r. ⌜ size r ≤ 2 ^ 127 ⌝ }
     {
         Signed::made(v < 0, v.unsigned_abs())
     }
@@ -66,7 +67,8 @@ impl Signed {
 
     // a d - b c, which two words hold whatever the four are
     pub fn determinant(a: i64, b: i64, c: i64, d: i64) -> Signed
-        ensures { λ r. ⌜ integer r ≡ a *ℤ d -ℤ b *ℤ c ⌝ }
+        ensures value { λ r. ⌜ integer r ≡ a *ℤ d -ℤ b *ℤ c ⌝ }
+        ensures size { λ r. ⌜ size r ≤ 2 ^ 127 ⌝ }
     {
         Signed::of(product(a, d) - product(b, c))
     }
@@ -106,6 +108,7 @@ impl Signed {
         requires { ⌜ size self * size other < 2 ^ 128 ⌝ }
         ensures value { λ r. ⌜ integer r ≡ integer self *ℤ integer other ⌝ }
         ensures size { λ r. ⌜ size r ≡ size self * size other ⌝ }
+        ensures bound { λ r. ⌜ ((k j : ℕ) → size self ≤ k → size other ≤ j → size r ≤ k * j) ⌝ }
     {
         Signed::made(
             self.negative != other.negative,

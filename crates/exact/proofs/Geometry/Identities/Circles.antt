@@ -1,11 +1,11 @@
 -- Identities of `incircle`: turning and swapping, circles by weights, two circles through two points, two circles anywhere.
-use mathlib.Core.Path.{_≡_, refl, sym, _∙_, ap, ap₂}
-use mathlib.Core.List.{List, [], _∷_}
+use mathlib.Core.Path.{_≡_, refl, _∙_, ap, ap₂}
+use mathlib.Core.List.{[], _∷_}
 use lib.IntN.{ℤ, pos, _+ℤ_, _-ℤ_, _*ℤ_, negℤ}
 use Rattle.exact.specs.Plane.{Point}
 use Rattle.exact.proofs.Algebra.Ring.{ring, integers}
-use Rattle.exact.proofs.Geometry.Words.{X, Y, W, orient, incircle, dist², dot, Site, Orient, Incircle, Dot, Dist², Height, Volume, W-times, W³-times}
-use Rattle.exact.proofs.Geometry.Reading.{sites, place, places, geometry}
+use Rattle.exact.proofs.Geometry.Words.{W, orient, incircle, dist², dot, Site, Orient, Incircle, Dot, Dist², Volume, W-times, W³-times}
+use Rattle.exact.proofs.Geometry.Reading.{sites, place, geometry}
 
 -- ---- turning and swapping
 pub circle-turn-place : (a b c : Site) (x : Point) → incircle (a .at) (b .at) (c .at) x ≡ incircle (b .at) (c .at) (a .at) x
@@ -41,10 +41,6 @@ circle-weights-place a b c x = ring (place x (sites (a ∷ b ∷ c ∷ []))) (se
 
 pub circle-weights : (a b c z : Site) → Incircle a b c z ≡ Orient b c z *ℤ Dist² a z +ℤ Orient c a z *ℤ Dist² b z +ℤ Orient a b z *ℤ Dist² c z
 circle-weights a b c z = circle-weights-place a b c (z .at) ∙ W-times z (Orient b c z *ℤ Dist² a z +ℤ Orient c a z *ℤ Dist² b z +ℤ Orient a b z *ℤ Dist² c z)
-
--- by products of two weights, without the distances of x
-pub circle-weights² : (a b c z : Site) → Orient a b c *ℤ Incircle a b c z ≡ Orient b c z *ℤ Orient c a z *ℤ Dist² a b +ℤ Orient c a z *ℤ Orient a b z *ℤ Dist² b c +ℤ Orient a b z *ℤ Orient b c z *ℤ Dist² c a
-circle-weights² a b c z = ring (sites (a ∷ b ∷ c ∷ z ∷ [])) (search geometry depth 20) refl
 
 -- ---- four points, by vectors from a
 pub circle-vectors : (a b c d : Site) → Orient c a d *ℤ Dist² a b ≡ Incircle a b c d +ℤ Orient b a d *ℤ Dist² a c +ℤ Orient a b c *ℤ Dist² a d

@@ -1,10 +1,10 @@
 -- Identities of squared distances and scalar products: for what is on one line, and for what is far.
-use mathlib.Core.Path.{_≡_, refl, sym, _∙_, ap}
-use mathlib.Core.List.{List, [], _∷_}
-use lib.IntN.{ℤ, pos, _+ℤ_, _-ℤ_, _*ℤ_, negℤ}
+use mathlib.Core.Path.{_≡_, refl, sym, _∙_}
+use mathlib.Core.List.{[], _∷_}
+use lib.IntN.{_+ℤ_, _-ℤ_, _*ℤ_}
 use Rattle.exact.specs.Plane.{Point}
 use Rattle.exact.proofs.Algebra.Ring.{ring}
-use Rattle.exact.proofs.Geometry.Words.{X, Y, W, orient, dist², dot, Site, Orient, Dot, Dist², W-times}
+use Rattle.exact.proofs.Geometry.Words.{X, Y, W, Δx, Δy, orient, dist², dot, Site, Orient, Dot, Dist², W-times}
 use Rattle.exact.proofs.Geometry.Reading.{sites, place, places, geometry}
 
 pub dist²-swap : (p q : Point) → dist² p q ≡ dist² q p
@@ -30,13 +30,6 @@ dot-step-place a b x = ring (place x (sites (a ∷ b ∷ []))) (search geometry 
 pub dot-step : (a x b : Site) → Dot a x b ≡ Dist² x a -ℤ Dot x a b
 dot-step a x b = sym (W-times x (Dot a x b)) ∙ dot-step-place a b (x .at)
 
--- the line c → a of a triangle by the line a → b and the products along it
-pub dot-line-ca : (a b c : Site) (x : Point) → orient (c .at) (a .at) x *ℤ Dist² a b ≡ dot (a .at) x (b .at) *ℤ Orient a b c -ℤ Dot a b c *ℤ orient (a .at) (b .at) x
-dot-line-ca a b c x = ring (place x (sites (a ∷ b ∷ c ∷ []))) (search geometry depth 20) refl
-
-pub dot-line-bc : (a b c : Site) (x : Point) → orient (b .at) (c .at) x *ℤ Dist² a b ≡ dot (b .at) x (a .at) *ℤ Orient a b c -ℤ Dot b c a *ℤ orient (a .at) (b .at) x
-dot-line-bc a b c x = ring (place x (sites (a ∷ b ∷ c ∷ []))) (search geometry depth 20) refl
-
 pub dist²-sum : (a p b : Site) → Dist² a b ≡ Dot a p b +ℤ Dot b p a
 dist²-sum a p b = ring (sites (a ∷ p ∷ b ∷ [])) (search geometry depth 20) refl
 
@@ -47,9 +40,6 @@ dot-onward a p b z = ring (sites (a ∷ p ∷ b ∷ z ∷ [])) (search geometry 
 pub dot-compose : (v s p z : Site) → Dist² v p *ℤ Dot v s z ≡ Dot v s p *ℤ Dot v p z -ℤ Orient v s p *ℤ Orient v p z
 dot-compose v s p z = ring (sites (v ∷ s ∷ p ∷ z ∷ [])) (search geometry depth 20) refl
 
-pub dot-against : (v b c d : Site) → Orient v b c *ℤ Dot v b d ≡ Dot v c b *ℤ Orient v b d -ℤ Dist² v b *ℤ Orient v c d
-dot-against v b c d = ring (sites (v ∷ b ∷ c ∷ d ∷ [])) (search geometry depth 20) refl
-
 pub three-dots : (a b z : Site) → Dot a b z *ℤ Dot b a z +ℤ Dot a b z *ℤ Dot z a b +ℤ Dot b a z *ℤ Dot z a b ≡ Orient a b z *ℤ Orient a b z
 three-dots a b z = ring (sites (a ∷ b ∷ z ∷ [])) (search geometry depth 20) refl
 
@@ -57,19 +47,21 @@ three-dots a b z = ring (sites (a ∷ b ∷ z ∷ [])) (search geometry depth 20
 pub weigh-ends : (c d p u v : Site) → Dist² c d *ℤ Orient u v p ≡ Dot d p c *ℤ Orient u v c +ℤ Dot c p d *ℤ Orient u v d +ℤ Orient c d p *ℤ (Dot u v d -ℤ Dot u v c)
 weigh-ends c d p u v = ring (sites (c ∷ d ∷ p ∷ u ∷ v ∷ [])) (search geometry depth 20) refl
 
--- ---- c near the line z → y, in the cone of z and y at p
-pub cone-by-end : (p z y c : Site) → Orient y p c *ℤ Dot c z y ≡ negℤ (Dist² c y *ℤ Orient p z c) -ℤ Dot c p y *ℤ Orient c z y
-cone-by-end p z y c = ring (sites (p ∷ z ∷ y ∷ c ∷ [])) (search geometry depth 20) refl
-
-pub cone-by-start : (p z y c : Site) → Orient y p c *ℤ Dist² z c ≡ negℤ (Dot c p z *ℤ Orient z y c) -ℤ Dot c y z *ℤ Orient p z c
-cone-by-start p z y c = ring (sites (p ∷ z ∷ y ∷ c ∷ [])) (search geometry depth 20) refl
-
 -- ---- the bend of a, b, c seen from v, where b is far
 pub bend : (v a b c : Site) →
     Orient a b c *ℤ ((Orient v b c +ℤ Orient v a b +ℤ Orient v a c) *ℤ Dist² v b)
     ≡ Orient v b c *ℤ Orient v a b *ℤ Dist² a c +ℤ (Orient v b c +ℤ Orient v a b) *ℤ (Orient v b c *ℤ (Dist² v b -ℤ Dist² v a) +ℤ Orient v a b *ℤ (Dist² v b -ℤ Dist² v c))
 bend v a b c = ring (sites (v ∷ a ∷ b ∷ c ∷ [])) (search geometry depth 20) refl
 
--- ---- distances by coordinates
-pub dist²-parts : (z a : Site) → Dist² z a ≡ (X (a .at) -ℤ X (z .at)) *ℤ (X (a .at) -ℤ X (z .at)) +ℤ (Y (a .at) -ℤ Y (z .at)) *ℤ (Y (a .at) -ℤ Y (z .at))
-dist²-parts z a = ring (sites (z ∷ a ∷ [])) (search geometry depth 20) refl
+-- ---- by coordinates
+pub dist²-Δ : (p q : Point) → dist² p q ≡ Δx p q *ℤ Δx p q +ℤ Δy p q *ℤ Δy p q
+dist²-Δ p q = ring (places (p ∷ q ∷ [])) (search geometry depth 20) refl
+
+pub dot-Δ : (o p q : Point) → dot o p q ≡ Δx o p *ℤ Δx o q +ℤ Δy o p *ℤ Δy o q
+dot-Δ o p q = ring (places (o ∷ p ∷ q ∷ [])) (search geometry depth 20) refl
+
+pub Δx-site : (a b : Site) → Δx (a .at) (b .at) ≡ X (b .at) -ℤ X (a .at)
+Δx-site a b = ring (sites (a ∷ b ∷ [])) (search geometry depth 20) refl
+
+pub Δy-site : (a b : Site) → Δy (a .at) (b .at) ≡ Y (b .at) -ℤ Y (a .at)
+Δy-site a b = ring (sites (a ∷ b ∷ [])) (search geometry depth 20) refl

@@ -1,15 +1,18 @@
 -- Identities of `orient`: turning and swapping, the weights of a place in a triangle, three terms. Each is written in the shape in which its signs are read.
-use mathlib.Core.Path.{_≡_, refl, sym, _∙_, ap}
-use mathlib.Core.List.{List, [], _∷_}
+use mathlib.Core.Path.{_≡_, refl, sym, _∙_}
+use mathlib.Core.List.{[], _∷_}
 use lib.IntN.{ℤ, pos, _+ℤ_, _-ℤ_, _*ℤ_, negℤ}
 use Rattle.exact.specs.Plane.{Point}
 use Rattle.exact.proofs.Algebra.Ring.{ring, integers}
-use Rattle.exact.proofs.Geometry.Words.{X, Y, W, orient, Site, Orient, Dot, Dist², W-times}
+use Rattle.exact.proofs.Geometry.Words.{X, Y, W, orient, Site, Orient, W-times}
 use Rattle.exact.proofs.Geometry.Reading.{sites, place, places, geometry}
 
 -- ---- turning and swapping
+pub turn-place : (a b : Site) (x : Point) → orient (a .at) (b .at) x ≡ orient (b .at) x (a .at)
+turn-place a b x = ring (place x (sites (a ∷ b ∷ []))) (search geometry depth 20) refl
+
 pub turn : (a b c : Site) → Orient a b c ≡ Orient b c a
-turn a b c = ring (sites (a ∷ b ∷ c ∷ [])) (search geometry depth 20) refl
+turn a b c = turn-place a b (c .at)
 
 pub swap-place : (a b : Site) (x : Point) → orient (a .at) (b .at) x ≡ negℤ (orient (b .at) (a .at) x)
 swap-place a b x = ring (place x (sites (a ∷ b ∷ []))) (search geometry depth 20) refl
@@ -53,7 +56,7 @@ det a b c d = a *ℤ d -ℤ b *ℤ c
 pub three-terms-det : (a b c d e f g h : ℤ) → det a b c d *ℤ det e f g h ≡ det a b e f *ℤ det c d g h -ℤ det a b g h *ℤ det c d e f
 three-terms-det a b c d e f g h = ring (a ∷ b ∷ c ∷ d ∷ e ∷ f ∷ g ∷ h ∷ []) (search integers depth 20 fits 5000) refl
 
--- and with a linear function of values u, v
+-- and with a linear function u · x + v · y
 pub three-terms-linear : (u v a b c d e f : ℤ) → (u *ℤ e +ℤ v *ℤ f) *ℤ det a b c d ≡ (u *ℤ a +ℤ v *ℤ b) *ℤ det e f c d +ℤ (u *ℤ c +ℤ v *ℤ d) *ℤ det a b e f
 three-terms-linear u v a b c d e f = ring (u ∷ v ∷ a ∷ b ∷ c ∷ d ∷ e ∷ f ∷ []) (search integers depth 20 fits 5000) refl
 
@@ -65,10 +68,6 @@ three-terms a b c p q = three-terms-place (a .at) (b .at) (c .at) (p .at) (q .at
 
 pub three-directions : (v a b c z : Site) → Orient v b c *ℤ Orient v a z +ℤ Orient v c a *ℤ Orient v b z +ℤ Orient v a b *ℤ Orient v c z ≡ pos 0
 three-directions v a b c z = ring (sites (v ∷ a ∷ b ∷ c ∷ z ∷ [])) (search geometry depth 20) refl
-
--- the direction from a to b in the cone of g and h
-pub in-cone-line : (a g h b : Site) (x : Point) → Orient a g h *ℤ orient (a .at) (b .at) x ≡ Orient h a b *ℤ orient (a .at) (g .at) x +ℤ Orient a g b *ℤ orient (a .at) (h .at) x
-in-cone-line a g h b x = ring (place x (sites (a ∷ g ∷ h ∷ b ∷ []))) (search geometry depth 20) refl
 
 -- ---- the edge c → d seen from p, and the edge z → y
 pub seen-edge : (p z y c d : Site) → Orient z y c *ℤ Orient c d p ≡ Orient p y c *ℤ Orient c d z -ℤ Orient p z c *ℤ Orient c d y

@@ -1,0 +1,17 @@
+pub mod Rim
+pub mod LastSeen
+pub mod FirstSeen
+pub mod Kept
+pub mod EarClosed
+pub mod Attached
+pub mod Turning
+pub mod Grown
+pub mod Covered
+pub mod Open
+pub mod Begin
+pub mod Forward
+pub mod Backward
+pub mod Closed
+pub mod Steps
+pub mod Fuel
+pub mod Worklist

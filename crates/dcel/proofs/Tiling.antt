@@ -1,0 +1,12 @@
+pub mod Faces
+pub mod Balance
+pub mod Outside
+pub mod NeverTwo
+pub mod Hull
+pub mod Rounds
+pub mod Covers
+pub mod FaceTriangles
+pub mod Tiles
+pub mod Edges
+pub mod Corners
+pub mod Square

@@ -1,0 +1,7 @@
+use borrow.Author.Needs.{needs}
+use Rattle.dcel.specs.Memory.{cell}
+use Rattle.dcel.proofs.accessors.header.Needs as need
+
+pub returns : need.returns
+unfolding cell
+returns c = search needs

@@ -1,0 +1,7 @@
+use borrow.Author.Needs.{needs}
+use Rattle.dcel.specs.Memory.{put}
+use Rattle.dcel.proofs.writers.triangle.Needs as need
+
+pub returns : need.returns
+unfolding put
+returns c = search needs

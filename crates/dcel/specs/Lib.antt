@@ -1,0 +1,14 @@
+pub mod Layout
+pub mod Map
+pub mod Mesh
+pub mod Pairs
+pub mod Patch
+pub mod Surgery
+pub mod EdgeSurgery
+pub mod Memory
+pub mod Holds
+pub mod Operations
+pub mod Start
+pub mod Geometry
+pub mod Volume
+pub mod Legal

@@ -1,0 +1,9 @@
+pub mod Beside
+pub mod Links
+pub mod Words
+pub mod Pushing
+pub mod Popping
+pub mod Halves
+pub mod Faces
+pub mod Turning
+pub mod Loop

@@ -1,0 +1,9 @@
+pub mod Iterate
+pub mod Places
+pub mod Worklist
+pub mod Legalize
+pub mod Where
+pub mod Walk
+pub mod Outside
+pub mod Insert
+pub mod Kept

@@ -1,0 +1,17 @@
+pub mod Words
+pub mod Tilings
+pub mod OnlyOne
+pub mod Cones
+pub mod Neighbours
+pub mod LocalSuffices
+pub mod NearestJoined
+pub mod Heights
+pub mod Rising
+pub mod Counting
+pub mod MiddleCorners
+pub mod HullEdges
+pub mod OffLine
+pub mod HullSides
+pub mod Extremes
+pub mod AllUsed
+pub mod OnLine
