@@ -8,7 +8,7 @@ use Rattle.dcel.specs.Layout.{Size, Table, vertex-out, edge-next, edge-prev, e
 use Rattle.dcel.specs.Pairs.{Pairs, changed, reversed, All}
 use Rattle.dcel.specs.Map.{Map}
 use Rattle.dcel.specs.Mesh.{Sound}
-use Rattle.dcel.specs.Patch.{Triangle, triangle-links, triangle-sides, Change, Patch, patch-of, patched}
+use Rattle.dcel.specs.Patch.{Triangle, triangle-links, triangle-sides, Change, Patch, patch-of}
 use Rattle.dcel.specs.Memory.{cell, put-all, put-links, rewire, map-of}
 use Rattle.dcel.proofs.Places.{other-table}
 use Rattle.dcel.proofs.Changes.{each}

@@ -11,7 +11,7 @@ use Rattle.dcel.specs.Layout.{Size, Table, header, vertex-x, vertex-y, vertex-
 use Rattle.dcel.specs.Pairs.{Source, changed, reversed}
 use Rattle.dcel.specs.Mesh.{Mesh}
 use Rattle.dcel.specs.Patch.{Change, Patch, patch-of, patched}
-use Rattle.dcel.specs.Memory.{cell, put, put-vertex, put-all, counts, rewire, apply, at-most, map-of}
+use Rattle.dcel.specs.Memory.{cell, put-vertex, put-all, counts, rewire, apply, at-most, map-of}
 use Rattle.dcel.specs.Holds.{Holds, Sites, sites-of, with-site, Rewritten, Becomes}
 use Rattle.dcel.proofs.Places.{other-table}
 use Rattle.dcel.proofs.Changes.{changed-off}

@@ -30,5 +30,7 @@ pub mod Sites
 pub mod Tiling
 pub mod Legal
 pub mod Horizon
+pub mod NoFace
 pub mod Placed
 pub mod Delaunay
+pub mod Steady

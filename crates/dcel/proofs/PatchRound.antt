@@ -5,7 +5,7 @@ use Prim.Native.Nat.{ℕ, zero, suc, _+_, _<_, _≤_}
 use native.Mathlib.Omega.{arith}
 use native.Mathlib.Nat.{zero-add, suc-add}
 use native.Mathlib.Decide.{decLt}
-use Rattle.dcel.specs.Pairs.{Source, Target, changed}
+use Rattle.dcel.specs.Pairs.{Source, Target}
 use Rattle.dcel.specs.Map.{Map, twin}
 use Rattle.dcel.specs.Mesh.{Sound, Round, turns}
 use Rattle.dcel.specs.Patch.{Patch}

@@ -1,23 +1,18 @@
 -- A mesh with its vertices at their places: its vertices as sites, its outer half edges, and what is so where it has no face.
-use mathlib.Core.Path.{_≡_, sym, ap}
+use mathlib.Core.Path.{_≡_}
 use mathlib.Core.Logic.{inl, inr}
 use Prim.Native.Nat.{ℕ, _≤_, _<_}
 use native.Mathlib.Omega.{arith}
-use lib.IntN.{negℤ}
-use borrow.Author.Differences.{ints}
 use Rattle.exact.specs.Plane.{Point}
-use Rattle.exact.proofs.Algebra.Signs.{_by_}
-use Rattle.exact.proofs.Geometry.Words.{Site, Orient, Left, Right, RightOn, On, Apart, Same, Between}
-use Rattle.exact.proofs.Geometry.Identities.Sides.{swap}
-use Rattle.exact.proofs.Geometry.Spots.{same-x, same-y, same-or-apart}
-use Rattle.exact.proofs.Geometry.Tests.{left→, not-left→}
+use Rattle.exact.proofs.Geometry.Words.{Site, Left, Right, RightOn, On, Apart, Same, Between}
+use Rattle.exact.proofs.Geometry.Tests.{left→}
 use Rattle.exact.proofs.Geometry.Seen.{some-beside}
 use Rattle.dcel.specs.Map.{Map, twin}
 use Rattle.dcel.specs.Mesh.{Sound, Mesh}
 use Rattle.dcel.specs.Surgery.{Outer}
 use Rattle.dcel.specs.Geometry.{Geometric}
-use Rattle.dcel.proofs.Twins.{twin-twin}
-use Rattle.dcel.proofs.StrictlyBetween.{not-strictly-between→}
+use Rattle.dcel.proofs.Sites as sites
+use Rattle.dcel.proofs.NoFace as lines
 
 pub record Placed (pos : ℕ → Point) (m : Map) : Type 0 where
   pub mesh : Mesh m
@@ -31,30 +26,27 @@ module _ {pos : ℕ → Point} {m : Map} (B : Placed pos m) where
   G = B .geometric
 
   abbrev pub site : ℕ → Site
-  site v = record { at = pos v; whole = G .whole v }
+  site = sites.site G
 
   abbrev pub start : ℕ → Site
-  start x = site (m .origin x)
+  start = sites.start G
 
   abbrev pub stop : ℕ → Site
-  stop x = site (m .origin (twin x))
+  stop = sites.stop G
 
   -- ---- vertices and outer half edges
   pub same-number : (u v : ℕ) → u < m .vertices → v < m .vertices → Same (site u) (site v) → u ≡ v
-  same-number u v h l e = G .apart u v h l (same-x (site u) (site v) e) (same-y (site u) (site v) e)
+  same-number = sites.same-vertex G
 
   pub ends-apart : (x : ℕ) → x < m .half-edges → Apart (start x) (stop x)
-  ends-apart x h = elim (same-or-apart (start x) (stop x)) [
-    | inl e ↦ absurd (S .no-loop x h (same-number (m .origin x) (m .origin (twin x)) (S .origin-in x h) (S .origin-in (twin x) (S .twin-in x h)) e))
-    | inr a ↦ a
-  ]
+  ends-apart = sites.ends-apart S G
 
   module _ (x : ℕ) (o : Outer m x) where
     pub right-on : (v : ℕ) → v < m .vertices → RightOn (start x) (stop x) (site v)
-    right-on v h = not-left→ (pos (m .origin x)) (pos (m .origin (twin x))) (pos v) (G .right x (o .in-e) (o .outer) v h)
+    right-on = sites.outer-right G x (o .in-e) (o .outer)
 
     pub none-between : (v : ℕ) → v < m .vertices → Between (start x) (stop x) (site v) → ⊥
-    none-between v h = not-strictly-between→ (pos (m .origin x)) (pos (m .origin (twin x))) (pos v) (G .clear x (o .in-e) (o .outer) v h)
+    none-between = sites.none-between G x (o .in-e) (o .outer)
 
     pub in-start : m .origin x < m .vertices
     in-start = S .origin-in x (o .in-e)
@@ -80,10 +72,7 @@ module _ {pos : ℕ → Point} {m : Map} (B : Placed pos m) where
 
   -- where there is none, every half edge is outer, and every vertex on its line
   pub all-outer : m .faces ≤ 1 → (x : ℕ) → x < m .half-edges → Outer m x
-  all-outer f x h = record { in-e = h; outer = omega (arith, S .face-in x h) }
+  all-outer f x h = record { in-e = h; outer = lines.all-outer S f x h }
 
   pub on-line : m .faces ≤ 1 → (x : ℕ) → x < m .half-edges → (v : ℕ) → v < m .vertices → On (start x) (stop x) (site v)
-  on-line f x h v l =
-      let back : RightOn (stop x) (start x) (site v) = right-on (twin x) (all-outer f (twin x) (S .twin-in x h)) v l by ap (λ (y : ℕ). negℤ (Orient (stop x) (site (m .origin y)) (site v))) (sym (twin-twin x)) in
-      let there = right-on x (all-outer f x h) v l in
-      omega (arith, ints, swap (stop x) (start x) (site v))
+  on-line f = lines.on-line S f G

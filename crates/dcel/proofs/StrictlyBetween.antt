@@ -1,6 +1,6 @@
 -- The test `strictly-between`, by signs.
 use mathlib.Core.Path.{_≡_}
-use mathlib.Core.Bool.{Bool, true, false}
+use mathlib.Core.Bool.{true, false}
 use Rattle.exact.specs.Plane.{Point, Diff, plus, times, below-0, across, along, in-line}
 use Rattle.exact.proofs.Booleans.{and-left, and-right, and←, is-false, true-false}
 use Rattle.exact.proofs.Algebra.Tests.{below→, below←}

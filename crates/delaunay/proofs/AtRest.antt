@@ -1,24 +1,23 @@
 -- Memory that stands for a triangulation holds a Delaunay triangulation of its vertices.
-use mathlib.Core.Path.{_≡_, refl, sym, _∙_, ap, subst}
-use mathlib.Core.Bool.{true}
-use mathlib.Core.List.{List, []}
-use mathlib.Core.Logic.{_⊎_, inl, inr}
+use mathlib.Core.Path.{_≡_, sym, _∙_, ap, subst}
+use mathlib.Core.List.{List}
+use mathlib.Core.Logic.{inl, inr}
 use Prim.Native.Nat.{ℕ, _≤_, _<_}
 use native.Mathlib.Omega.{arith}
 use lib.ListN.{length}
-use Rattle.exact.specs.Plane.{each, up-to, Vertex, vertex, vertex-at, spot, Delaunay}
+use Rattle.exact.specs.Plane.{up-to, Vertex, vertex, vertex-at, spot, Delaunay}
 use Rattle.exact.proofs.Enumerations.{each-at}
 use lib.Dec.{eqb}
 use Rattle.exact.proofs.Lists.{every←, each-in, each-length, up-to-length}
 use Rattle.exact.proofs.Vertices.{spot-whole}
 use Rattle.exact.proofs.Statements.OnLine.{few-on-line, line-delaunay}
 use Rattle.dcel.specs.Layout.{Size, vertex-data}
-use Rattle.dcel.specs.Geometry.{Geometric, At-rest, triangles}
+use Rattle.dcel.specs.Geometry.{triangles}
 use Rattle.dcel.specs.Memory.{cell, map-of, x-in, y-in, vertices-in}
 use Rattle.dcel.specs.Start.{Bare}
 use Rattle.dcel.proofs.Delaunay.AtRest.{no-triangles, rest-is-delaunay}
 use Rattle.dcel.proofs.Legal.Positions.{geometric-at, wrong-at}
-use Rattle.delaunay.specs.Kept.{vertices-of, Held, Settled, Triangulated, Standing}
+use Rattle.delaunay.specs.Kept.{vertices-of, Settled, Standing}
 use Rattle.delaunay.specs.Places.{place-of}
 
 module _ (s : Size) (m : List ℕ) where

@@ -1,11 +1,11 @@
 -- Putting a point in: by where it is, and then flipping till every edge is right.
 use mathlib.Core.Bool.{Bool, true, false, _&&_}
 use mathlib.Core.List.{List}
-use Prim.Native.Nat.{ℕ, _+_}
+use Prim.Native.Nat.{ℕ}
 use lib.Dec.{eqb, leb}
 use Rattle.std.specs.declared.option.Option.{Option}
 use Rattle.std.specs.declared.option.Option.the-variants.{None, Some}
-use Rattle.exact.specs.Plane.{pick, Point, point}
+use Rattle.exact.specs.Plane.{pick, point}
 use Rattle.dcel.specs.Layout.{Size, header, vertex-data, vertex-out, edge-next, edge-prev, edge-face}
 use Rattle.dcel.specs.Map.{twin}
 use Rattle.dcel.specs.Memory.{cell, put, vertices-in}

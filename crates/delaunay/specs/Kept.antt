@@ -1,10 +1,10 @@
 -- What memory keeps: a mesh with its vertices at their places, every edge right, nothing on the list. And what it is for a place to be told right.
 use mathlib.Core.Path.{_≡_}
-use mathlib.Core.Bool.{Bool, true, false}
+use mathlib.Core.Bool.{true}
 use mathlib.Core.List.{List, [], _∷_}
 use mathlib.Core.Logic.{_⊎_, _≢_}
 use Prim.Native.Nat.{ℕ, _+_, _*_, _≤_, _<_}
-use Rattle.exact.specs.Plane.{each, up-to, Point, Vertex, vertex, left-of, in-line}
+use Rattle.exact.specs.Plane.{each, up-to, Point, Vertex, vertex, left-of}
 use Rattle.dcel.specs.Layout.{Size, header, vertex-data, worklist}
 use Rattle.dcel.specs.Map.{twin}
 use Rattle.dcel.specs.Memory.{cell, map-of, x-in, y-in, vertices-in, half-edges-in}

@@ -1,5 +1,4 @@
 -- A vertex outside: attached to an outer half edge that has it on its left, and then ears closed both ways while it sees the next outer half edge.
-use mathlib.Core.Bool.{Bool, true, false}
 use mathlib.Core.List.{List}
 use Prim.Native.Nat.{ℕ, _+_, _*_}
 use Rattle.std.specs.declared.option.Option.{Option}

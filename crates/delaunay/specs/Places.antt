@@ -1,9 +1,9 @@
 -- Where the vertices in memory are, and on which side of a half edge a point is.
-use mathlib.Core.Bool.{Bool, true, false}
+use mathlib.Core.Bool.{Bool}
 use mathlib.Core.List.{List}
-use Prim.Native.Nat.{ℕ, _/_}
+use Prim.Native.Nat.{ℕ}
 use Rattle.exact.specs.Plane.{Point, point, inside-circle}
-use Rattle.dcel.specs.Layout.{Size, edge-next, edge-prev, edge-face, edge-origin}
+use Rattle.dcel.specs.Layout.{Size, edge-prev, edge-origin}
 use Rattle.dcel.specs.Map.{twin}
 use Rattle.dcel.specs.Memory.{cell, x-in, y-in}
 

@@ -1,6 +1,5 @@
 -- The list of edges to look at, linked through one word for each edge: 0 off the list, and on it one more than the head that was when it came. So none is on it twice.
-use mathlib.Core.Bool.{Bool, true, false}
-use mathlib.Core.List.{List, [], _∷_}
+use mathlib.Core.List.{List}
 use Prim.Native.Nat.{ℕ, _+_, _-_, _*_, _/_}
 use lib.Dec.{eqb}
 use Rattle.std.specs.declared.option.Option.{Option}

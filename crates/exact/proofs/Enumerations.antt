@@ -10,7 +10,7 @@ use Rattle.exact.proofs.Booleans.{bit, bit-≤1, either, is-false, and-left, a
 use Rattle.exact.proofs.Sums.{count-end}
 use Rattle.exact.proofs.Lists.{In, any-false→, any-false←, in-append, each-in, up-to→, count, count-none}
 
-each-append : {A B : Type 0} (t : A → B) (l m : List A) → each t (l ++ m) ≡ each t l ++ each t m
+pub each-append : {A B : Type 0} (t : A → B) (l m : List A) → each t (l ++ m) ≡ each t l ++ each t m
 unfolding each
 each-append t [] m = refl
 each-append {A} {B} t (x ∷ l) m = ap {B = List B} (λ (k : List B). t x ∷ k) (each-append t l m)

@@ -20,7 +20,7 @@ unfolding Come-and-gone
 come-and-gone vs a b d h = ap all-but-last (set-last vs (vertex a b d) _) ∙ but-last vs _
 
 -- ---- apart
-abbrev taken : Point → List Vertex → Bool
+abbrev pub taken : Point → List Vertex → Bool
 taken p vs = any (λ u. same-spot (u .at) p) vs
 
 taken-swap : (p : Point) (vs : List Vertex) → taken p vs ≡ false → any (λ u. same-spot p (u .at)) vs ≡ false
@@ -87,7 +87,7 @@ pub record Found (vs : List Vertex) (p : Point) (from i : ℕ) : Type 0 where
   pub in-range : j < length vs
   pub same : same-spot (vertex-at vs j .at) p ≡ true
 
-found-one : (from : ℕ) (vs : List Vertex) (p : Point) (i : ℕ) (is : List ℕ) → found-from from vs p ≡ i ∷ is → Found vs p from i
+pub found-one : (from : ℕ) (vs : List Vertex) (p : Point) (i : ℕ) (is : List ℕ) → found-from from vs p ≡ i ∷ is → Found vs p from i
 unfolding found-from vertex-at
 found-one from [] p i is e = absurd (let z : 0 ≡ suc (length is) = ap length e in omega arith)
 found-one from (v ∷ vs) p i is e = at (same-spot (v .at) p) refl e (λ q. found-one (suc from) vs p i is q)
@@ -99,7 +99,7 @@ found-one from (v ∷ vs) p i is e = at (same-spot (v .at) p) refl e (λ q. foun
     at true q e next = record { j = 0; is = let z : from ≡ i = cc in omega arith; in-range = omega arith; same = q }
     at false q e next = later (next e)
 
-found-none : (from : ℕ) (vs : List Vertex) (p : Point) → found-from from vs p ≡ [] → taken p vs ≡ false
+pub found-none : (from : ℕ) (vs : List Vertex) (p : Point) → found-from from vs p ≡ [] → taken p vs ≡ false
 unfolding found-from any
 found-none from [] p e = refl
 found-none from (v ∷ vs) p e = at (same-spot (v .at) p) refl e (λ q. found-none (suc from) vs p q)
@@ -108,7 +108,7 @@ found-none from (v ∷ vs) p e = at (same-spot (v .at) p) refl e (λ q. found-no
     at true q e next = absurd (let z : 1 ≡ 0 = ap length e in omega arith)
     at false q e next = or-false← (same-spot (v .at) p) (taken p vs) q (next e)
 
-same-place : (q : Point) (a b : ℕ) → q .w ≡ 1 → same-spot q (point a b) ≡ true → q ≡ point a b
+pub same-place : (q : Point) (a b : ℕ) → q .w ≡ 1 → same-spot q (point a b) ≡ true → q ≡ point a b
 same-place q a b h e =
     let ex : q .x ≡ a = eqb→ (q .x) a (and-left (eqb (q .x) a) (eqb (q .y) b) e) in
     let ey : q .y ≡ b = eqb→ (q .y) b (and-right (eqb (q .x) a) (eqb (q .y) b) e) in

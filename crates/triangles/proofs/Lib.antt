@@ -4,3 +4,5 @@ pub mod Rows
 pub mod Apart
 pub mod Worked
 pub mod Entries
+pub mod Promises
+pub mod ThereIs

@@ -5,7 +5,7 @@ use mathlib.Core.List.{List, [], _∷_, _++_}
 use Prim.Native.Nat.{ℕ, zero, suc, _<_}
 use native.Mathlib.Omega.{arith}
 use lib.ListN.{length}
-use Rattle.exact.specs.Plane.{every, any, Vertex, vertex, vertex-at}
+use Rattle.exact.specs.Plane.{every, any, Vertex, vertex-at}
 use Rattle.exact.proofs.Booleans.{and-left, and-right, and←, or-false→, or-false←}
 use Rattle.triangles.specs.House.{set-nth, all-but-last}
 

@@ -1,10 +1,8 @@
 -- The worked examples: each is computed.
 use mathlib.Core.Path.{_≡_, refl, sym}
 use mathlib.Core.Bool.{Bool, true, false, true≢false}
-use mathlib.Core.Logic.{_⊎_, inl, inr}
-use mathlib.Core.List.{List, [], _∷_}
-use native.Mathlib.Omega.{arith}
-use lib.Dec.{lit<, lit≤}
+use mathlib.Core.Logic.{inl, inr}
+use lib.Dec.{lit<}
 use Rattle.exact.specs.Plane.{every, any, those, up-to, vertex-at, no-twice, all-apart, on-a-line, none-of, tri}
 use Rattle.triangles.specs.House.{refusal, vertices-after, Located, Nearest, Hull-row, chained, first-of, no-number-twice, found-from, beyond, on-an-edge, set-nth, all-but-last}
 use Rattle.triangles.specs.Promise.{on-hull}

@@ -1,19 +1,18 @@
 -- What the entry that tells where a point lies to a small circle answers; and how a step of the whole machine is told to the world outside. Assumes nothing: these
 -- are definitions.
 use mathlib.Core.Path.{_≡_}
-use mathlib.Core.Bool.{Bool, true, false, _&&_, not}
-use mathlib.Core.List.{List, [], _∷_, _++_}
-use Prim.Native.Nat.{ℕ, zero, suc, _+_, _*_, _-_, _/_, _%_, _≤_, _<_}
+use mathlib.Core.Bool.{Bool, true, false, _&&_}
+use mathlib.Core.List.{List, _++_}
+use Prim.Native.Nat.{ℕ, _+_, _-_}
 use lib.Dec.{eqb, ltb, leb}
-use lib.ListN.{length, getD, take, drop}
-use mathlib.Core.Logic.{_⊎_}
-use Rattle.exact.specs.Plane.{pick, every, any, Point, point, circle, above-0, below-0, left-of}
-use Rattle.triangles.specs.House.{Command, insert, remove, locate, nearest, all-faces, around, hull, clear}
+use lib.ListN.{length, drop}
+use Rattle.exact.specs.Plane.{pick, every, Point, circle, above-0, below-0, left-of}
+use Rattle.triangles.specs.House.{insert, remove, locate, nearest, all-faces, around, hull, clear}
 use Rattle.triangles.specs.declared.Reply.{Reply}
 use Rattle.triangles.specs.declared.Reply.the-variants.{Inside, On, Outside, Refused}
 use Rattle.dcel.specs.Layout.{real}
 use Rattle.triangles.specs.Machine.{machine}
-use Rattle.triangles.specs.Promise.{Engine, Event, said, next, Act, shows, done, refused, Step}
+use Rattle.triangles.specs.Promise.{Engine, Event, said, next, Act, shows, done, refused}
 use Rattle.triangles.specs.declared.Told.{Told}
 use Rattle.triangles.specs.declared.Told.the-variants.{Shows, Done, No}
 

@@ -1,9 +1,8 @@
 -- Small triangulations, worked out: what the definitions say of them, as far as finitely many points say it.
 use mathlib.Core.Path.{_≡_}
-use mathlib.Core.Bool.{Bool, true, false, _&&_, not}
+use mathlib.Core.Bool.{Bool, true, false}
 use mathlib.Core.List.{List, [], _∷_}
 use Prim.Native.Nat.{ℕ, _+_, _*_}
-use lib.Dec.{eqb}
 use lib.ListN.{length}
 use Rattle.exact.specs.Plane.{every, those, Vertex, vertex, Tri, tri, point, a-triangle, empty-circle, no-twice, all-apart, on-a-line, all-numbers, joined}
 use Rattle.triangles.specs.House.{House, house, remove, refusal, vertices-after, Located, Nearest, Hull-row}

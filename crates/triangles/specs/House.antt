@@ -2,11 +2,11 @@
 use mathlib.Core.Path.{_≡_}
 use mathlib.Core.Bool.{Bool, true, false, _&&_, not}
 use mathlib.Core.List.{List, [], _∷_, _++_}
-use Prim.Native.Nat.{ℕ, zero, suc, _+_, _*_, _-_, _/_, _%_, _≤_, _<_}
+use Prim.Native.Nat.{ℕ, zero, suc, _+_, _-_, _≤_, _<_}
 use lib.Dec.{eqb, ltb, leb}
-use lib.ListN.{length, getD, take, drop}
+use lib.ListN.{length}
 use mathlib.Core.Logic.{_⊎_}
-use Rattle.exact.specs.Plane.{pick, or, every, any, those, each, none-of, Point, point, Vertex, vertex, vertex-at, spot, Tri, tri, Delaunay, on-a-line, same-spot, joined, outer-edge, goes, inside-tri, same-tri, on-segment, left-of, all-numbers, square, up-to, Diff, above-0, minus}
+use Rattle.exact.specs.Plane.{pick, or, every, any, those, each, none-of, Point, point, Vertex, vertex, vertex-at, spot, Tri, Delaunay, on-a-line, same-spot, joined, outer-edge, goes, inside-tri, same-tri, on-segment, left-of, all-numbers, square, above-0, minus}
 
 pub record House : Type 0 where
   pub vertices : List Vertex  -- by their numbers

@@ -1,5 +1,5 @@
 -- What a line of text says. A line is its bytes: 32 is a space, 35 is #, 48 to 57 are the digits.
-use mathlib.Core.Bool.{Bool, true, false, _&&_, not}
+use mathlib.Core.Bool.{Bool, false, _&&_, not}
 use mathlib.Core.List.{List, [], _∷_}
 use Prim.Native.Nat.{ℕ, _+_, _*_, _-_}
 use lib.Chars.{codes}

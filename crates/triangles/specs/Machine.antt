@@ -1,12 +1,12 @@
 -- The machine at any size: its memory at the start, and one step.
-use mathlib.Core.Bool.{Bool, true, false, _&&_}
+use mathlib.Core.Bool.{Bool, _&&_}
 use mathlib.Core.List.{List, [], _∷_}
 use Prim.Native.Nat.{ℕ, _+_}
 use lib.Dec.{eqb, ltb}
 use lib.ListN.{replicate}
 use Rattle.std.specs.declared.option.Option.{Option}
 use Rattle.std.specs.declared.option.Option.the-variants.{None, Some}
-use Rattle.exact.specs.Plane.{pick, point, Tri}
+use Rattle.exact.specs.Plane.{pick, Tri}
 use Rattle.dcel.specs.Layout.{Size, header, total}
 use Rattle.dcel.specs.Memory.{cell, put, map-of, faces-in}
 use Rattle.dcel.specs.Geometry.{face-tri}

@@ -1,5 +1,5 @@
 -- The acts that outcomes stand for.
-use mathlib.Core.List.{List, [], _∷_}
+use mathlib.Core.List.{[], _∷_}
 use Rattle.triangles.specs.Promise.{Act, shows, done, refused}
 use Rattle.triangles.specs.declared.machine.Outcome.{Outcome}
 use Rattle.triangles.specs.declared.machine.Outcome.the-variants.{One, Three, Done, Refused}

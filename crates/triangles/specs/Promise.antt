@@ -2,12 +2,11 @@
 use mathlib.Core.Path.{_≡_}
 use mathlib.Core.Bool.{Bool, true, false, _&&_, not}
 use mathlib.Core.List.{List, [], _∷_, _++_}
-use Prim.Native.Nat.{ℕ, zero, suc, _+_, _*_, _-_, _/_, _%_, _≤_, _<_}
+use Prim.Native.Nat.{ℕ, zero, suc, _+_, _*_, _-_, _≤_, _<_}
 use lib.Dec.{eqb, ltb, leb}
-use lib.ListN.{length, getD, take, drop}
-use mathlib.Core.Logic.{_⊎_}
-use Rattle.exact.specs.Plane.{pick, or, every, any, those, each, none-of, Diff, Point, point, Vertex, vertex, spot, Tri, tri, a-triangle, all-apart, on-a-line, Delaunay, Tiles, empty-circle, inside-circle, goes, joined, outer-edge, all-numbers, circle, above-0, below-0, square, minus, side, left-of, in-hull, in-tri, a-point}
-use Rattle.triangles.specs.House.{House, house, Command, insert, remove, refusal, After, Shown, small-command, vertices-after, removed, found}
+use lib.ListN.{length}
+use Rattle.exact.specs.Plane.{pick, or, every, any, those, Point, point, Vertex, vertex, spot, Tri, all-apart, on-a-line, Delaunay, Tiles, empty-circle, inside-circle, goes, joined, outer-edge, all-numbers, circle, above-0, below-0, square, minus, side, left-of, in-tri}
+use Rattle.triangles.specs.House.{House, house, Command, refusal, After, Shown, small-command, vertices-after, removed, found}
 
 pub data Event : Type 0 where
   said : Command → Event

@@ -1,5 +1,21 @@
 // What is shown of the definitions alone: each function's contract is a theorem.
-ghost use Rattle.triangles.specs.Promise.{Only-one, All-used, Local-suffices, Nearest-joined, Turns, One-diagonal, Stay-apart, Come-and-gone};
+ghost use Rattle.triangles.specs.Entry.{own};
+ghost use Rattle.triangles.specs.House.{core};
+ghost use Rattle.triangles.specs.Promise.{Whole, There-is, Only-one, All-used, Local-suffices, Nearest-joined, Turns, One-diagonal, Stay-apart, Come-and-gone};
+
+// The machine is steady, and every list of commands is answered rightly from the start on: insert, all faces and clear as defined, what isn't known with 2.
+pub fn whole_core() -> u8
+    ensures { λ _. ⌜ Whole core own ⌝ }
+{
+    0
+}
+
+// For any vertices at whole places, no two at one, there is a Delaunay triangulation.
+pub fn there_is() -> u8
+    ensures { λ _. ⌜ There-is ⌝ }
+{
+    0
+}
 
 // Without four vertices on an empty circle there is only one Delaunay triangulation.
 pub fn only_one() -> u8

@@ -1,4 +1,4 @@
--- A mesh has a face just where its vertices are not on one line: without a face both halves of each edge are of the outside, so that all vertices are on its line.
+-- A mesh has a face just where its vertices are not on one line.
 use mathlib.Core.Path.{_≡_}
 use mathlib.Core.Bool.{true, false}
 use mathlib.Core.List.{List}
@@ -8,36 +8,27 @@ use native.Mathlib.Decide.{decLt}
 use lib.ListN.{length}
 use Rattle.exact.specs.Plane.{Point, Vertex, spot, on-a-line}
 use Rattle.exact.proofs.Booleans.{true-false, is-false}
-use Rattle.exact.proofs.Algebra.Signs.{is-zero, clash-zero}
+use Rattle.exact.proofs.Algebra.Signs.{clash-zero}
 use Rattle.exact.proofs.Geometry.Words.{On}
 use Rattle.exact.proofs.Geometry.Line.{on-three}
 use Rattle.exact.proofs.Geometry.OneLine.{on-a-line→, on-a-line←}
 use Rattle.dcel.specs.Map.{Map, twin}
 use Rattle.dcel.specs.Mesh.{Sound}
 use Rattle.dcel.specs.Geometry.{Geometric}
-use Rattle.dcel.proofs.Twins.{twin-twin}
-use Rattle.dcel.proofs.Sites.{site, start, stop, third, different-apart, face-left, outer-right, outer-left, stop-in, third-in, ends-apart}
+use Rattle.dcel.proofs.Sites.{site, start, stop, third, different-apart, face-left, stop-in, third-in, ends-apart}
+use Rattle.dcel.proofs.NoFace.{on-line}
 use Rattle.dcel.proofs.Tiling.Faces.{edge-inner}
 
 module _ {m : Map} (S : Sound m) where
   pub two-vertices : (e : ℕ) → e < m .half-edges → 1 < m .vertices
   two-vertices e h = omega (arith, S .origin-in e h, stop-in S e h, S .no-loop e h)
 
-  pub all-outer : m .faces ≤ 1 → (e : ℕ) → e < m .half-edges → m .face e ≡ 0
-  all-outer none e h = omega (arith, S .face-in e h)
-
 module _ {pos : ℕ → Point} {m : Map} (S : Sound m) (G : Geometric pos m) where
-  -- every vertex is on the line of every half edge
-  pub on-edge-line : m .faces ≤ 1 → (e : ℕ) → e < m .half-edges → (v : ℕ) → v < m .vertices → On (start G e) (stop G e) (site G v)
-  on-edge-line none e h v l =
-      let t = S .twin-in e h in
-      is-zero (rw (twin-twin e) at (outer-left G (twin e) t (all-outer S none (twin e) t) v l)) (outer-right G e h (all-outer S none e h) v l)
-
-  -- so any three are on one line: each has a half edge
+  -- any three are on one line: each has a half edge, and all are on its line
   pub three-on-line : m .faces ≤ 1 → (u v w : ℕ) → u < m .vertices → v < m .vertices → w < m .vertices → On (site G u) (site G v) (site G w)
   three-on-line none u v w hu hv hw =
       let e = m .out u in let h = S .out-in u hu in
-      on-three (start G e) (stop G e) (site G u) (site G v) (site G w) (ends-apart S G e h) (on-edge-line none e h u hu) (on-edge-line none e h v hv) (on-edge-line none e h w hw)
+      on-three (start G e) (stop G e) (site G u) (site G v) (site G w) (ends-apart S G e h) (on-line S none G e h u hu) (on-line S none G e h v hv) (on-line S none G e h w hw)
 
 module _ (vs : List Vertex) {m : Map} (S : Sound m) (G : Geometric (spot vs) m) (len : m .vertices ≡ length vs) where
   pub no-face-line : m .faces ≤ 1 → on-a-line vs ≡ true

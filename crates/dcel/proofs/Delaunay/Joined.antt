@@ -18,7 +18,8 @@ use Rattle.dcel.specs.Geometry.{Geometric, triangles}
 use Rattle.dcel.proofs.Twins.{twin-twin}
 use Rattle.dcel.proofs.Sites.{start, stop, third, face-left, outer-right, third-in}
 use Rattle.dcel.proofs.Tiling.Hull.{two-sides}
-use Rattle.dcel.proofs.Delaunay.FaceOrLine.{all-outer, no-face-line, face-no-line}
+use Rattle.dcel.proofs.NoFace.{all-outer}
+use Rattle.dcel.proofs.Delaunay.FaceOrLine.{no-face-line, face-no-line}
 use Rattle.dcel.proofs.Delaunay.TriangleEdges.{Joins, inner-edge, triangle-edge}
 use Rattle.dcel.proofs.Delaunay.LineEdges.{line-edge-joined, line-joined-by}
 

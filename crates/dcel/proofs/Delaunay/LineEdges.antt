@@ -22,7 +22,8 @@ use Rattle.dcel.specs.Geometry.{from, to, Geometric}
 use Rattle.dcel.proofs.Twins.{twin-twin}
 use Rattle.dcel.proofs.StrictlyBetween.{not-strictly-between→}
 use Rattle.dcel.proofs.Sites.{site, stop, different-apart, none-between, stop-in, ends-apart}
-use Rattle.dcel.proofs.Delaunay.FaceOrLine.{all-outer, three-on-line, no-face-line}
+use Rattle.dcel.proofs.NoFace.{all-outer}
+use Rattle.dcel.proofs.Delaunay.FaceOrLine.{three-on-line, no-face-line}
 use Rattle.dcel.proofs.Delaunay.TriangleEdges.{Joins}
 
 module _ (vs : List Vertex) {m : Map} (S : Sound m) (G : Geometric (spot vs) m) (len : m .vertices ≡ length vs) (none : m .faces ≤ 1) where

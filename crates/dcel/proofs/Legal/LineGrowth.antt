@@ -24,7 +24,8 @@ use Rattle.dcel.proofs.Neighbours.{new-pairs}
 use Rattle.dcel.proofs.Sites.{site, same-vertex, start, stop}
 use Rattle.dcel.proofs.StrictlyBetween.{not-strictly-between→}
 use Rattle.dcel.proofs.Legal.NewVertex.{Fresh, each-vertex}
-use Rattle.dcel.proofs.Legal.Lines.{all-outer, ab, all-on, order-of, in-order, line-geometric}
+use Rattle.dcel.proofs.NoFace.{all-outer}
+use Rattle.dcel.proofs.Legal.Lines.{ab, all-on, order-of, in-order, line-geometric}
 
 -- p is beyond the end of e
 abbrev pub Past : (pos : ℕ → Point) (m : Map) → Geometric pos m → ℕ → Type 0
@@ -119,7 +120,7 @@ module _ (pos : ℕ → Point) (m n : Map) (S : Sound m) (N : Sound n) (G : Geom
 
   clear : (x : ℕ) → x < n .half-edges → (u : ℕ) → u < n .vertices → Between (s (n .origin x)) (s (n .origin (twin x))) (s u) → ⊥
   clear = each-kind (λ _ x y. (u : ℕ) → u < n .vertices → Between (s x) (s y) (s u) → ⊥) between-bp (λ u l k. between-bp u l (between-swap v b (s u) k))
-      (λ x l. each (λ u. Between (s (m .origin x)) (s (m .origin (twin x))) (s u) → ⊥) (λ u k. not-strictly-between→ _ _ _ (G .clear x l (all-outer m S few x l) u k)) (between-old x l))
+      (λ x l. each (λ u. Between (s (m .origin x)) (s (m .origin (twin x))) (s u) → ⊥) (λ u k. not-strictly-between→ _ _ _ (G .clear x l (all-outer S few x l) u k)) (between-old x l))
 
   -- ---- nothing is beyond an end
   beyond-p : (u : ℕ) → u < n .vertices → Between b (s u) v → ⊥
@@ -164,8 +165,8 @@ module _ (pos : ℕ → Point) (m n : Map) (S : Sound m) (N : Sound n) (G : Geom
       at-a uy =
           let e₁ = at-b uy in
           let t = a-b in
-          let before = not-before a b base u a (λ ua. not-strictly-between→ _ _ _ (G .clear x l (all-outer m S few x l) (m .origin e) in-a) (ordered (m .origin x) (m .origin (twin x)) (m .origin e) (old lx) (old ly) (old in-a) ua (omega (arith, ints)))) in
-          let after = not-before a b base a u (λ au. not-strictly-between→ _ _ _ (G .clear e (may .in-e) (all-outer m S few e (may .in-e)) (m .origin x) lx) (ordered (m .origin e) (m .origin (twin e)) (m .origin x) (old in-a) (old in-b) (old lx) au (omega (arith, ints)))) in
+          let before = not-before a b base u a (λ ua. not-strictly-between→ _ _ _ (G .clear x l (all-outer S few x l) (m .origin e) in-a) (ordered (m .origin x) (m .origin (twin x)) (m .origin e) (old lx) (old ly) (old in-a) ua (omega (arith, ints)))) in
+          let after = not-before a b base a u (λ au. not-strictly-between→ _ _ _ (G .clear e (may .in-e) (all-outer S few e (may .in-e)) (m .origin x) lx) (ordered (m .origin e) (m .origin (twin e)) (m .origin x) (old in-a) (old in-b) (old lx) au (omega (arith, ints)))) in
           omega (arith, ints)
 
   ends : (x : ℕ) → x < n .half-edges → n .next x ≡ twin x → (u : ℕ) → u < n .vertices → Between (s (n .origin x)) (s u) (s (n .origin (twin x))) → ⊥

@@ -17,7 +17,7 @@ use Rattle.dcel.proofs.Neighbours.{new-pairs}
 use Rattle.dcel.proofs.Sites.{site, same-vertex, ends-apart}
 use Rattle.dcel.proofs.StrictlyBetween.{not-strictly-between→}
 use Rattle.dcel.proofs.Legal.NewVertex.{Fresh, each-vertex, OnEdge}
-use Rattle.dcel.proofs.Legal.Lines.{all-outer, on-line}
+use Rattle.dcel.proofs.NoFace.{all-outer, on-line}
 
 -- n is m with p on e: e goes on to p, two new half edges join p and b, and one turns back where one did
 pub record SplitLine (m n : Map) (e : ℕ) : Type 0 where
@@ -101,7 +101,7 @@ module _ (pos : ℕ → Point) (m n : Map) (S : Sound m) (N : Sound n) (G : Geom
 
   -- ---- nothing is strictly between
   clear-ab : (u : ℕ) → u < m .vertices → Between a b (s u) → ⊥
-  clear-ab u l = not-strictly-between→ _ _ _ (G .clear e h (all-outer m S few e h) u l)
+  clear-ab u l = not-strictly-between→ _ _ _ (G .clear e h (all-outer S few e h) u l)
 
   pub line-edge-fresh : Fresh pos m
   line-edge-fresh u l x y = clear-ab u l (subst (λ (q : Point). InSegment (a .at) (b .at) q) (sym (same-at (s u) v (same-of (s u) v x y))) i)
@@ -119,10 +119,10 @@ module _ (pos : ℕ → Point) (m n : Map) (S : Sound m) (N : Sound n) (G : Geom
       in-y = S .origin-in (twin x) (S .twin-in x (o .old))
 
       on-x : (u : ℕ) → u < m .vertices → On (s (m .origin x)) (s (m .origin (twin x))) (s u)
-      on-x = on-line pos m S G few x (o .old)
+      on-x = on-line S few G x (o .old)
 
       clear-x : (u : ℕ) → u < m .vertices → Between (s (m .origin x)) (s (m .origin (twin x))) (s u) → ⊥
-      clear-x u l = not-strictly-between→ _ _ _ (G .clear x (o .old) (all-outer m S few x (o .old)) u l)
+      clear-x u l = not-strictly-between→ _ _ _ (G .clear x (o .old) (all-outer S few x (o .old)) u l)
 
   clear-each : (x y : ℕ) → ((u : ℕ) → u < m .vertices → Between (s x) (s y) (s u) → ⊥) → (Between (s x) (s y) v → ⊥) → (u : ℕ) → u < n .vertices → Between (s x) (s y) (s u) → ⊥
   clear-each x y = each-vertex (λ u. Between (s x) (s y) (s u) → ⊥) (m .vertices) (n .vertices) (K .vertices-is)
@@ -133,4 +133,4 @@ module _ (pos : ℕ → Point) (m n : Map) (S : Sound m) (N : Sound n) (G : Geom
       (clear-each (m .vertices) (m .origin e) (λ u l k. clear-ab u l (between-front a b v (s u) i (between-swap v a (s u) k))) (not-start v a))
       (clear-each (m .vertices) (m .origin (twin e)) (λ u l k. clear-ab u l (between-back a b v (s u) i k)) (not-start v b))
       (clear-each (m .origin (twin e)) (m .vertices) (λ u l k. clear-ab u l (between-back a b v (s u) i (between-swap b v (s u) k))) (not-end b v))
-      (λ x o. clear-each (m .origin x) (m .origin (twin x)) (λ u l. not-strictly-between→ _ _ _ (G .clear x (o .old) (all-outer m S few x (o .old)) u l)) (others-clear x o))
+      (λ x o. clear-each (m .origin x) (m .origin (twin x)) (λ u l. not-strictly-between→ _ _ _ (G .clear x (o .old) (all-outer S few x (o .old)) u l)) (others-clear x o))

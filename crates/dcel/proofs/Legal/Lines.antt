@@ -1,44 +1,30 @@
 -- A mesh without a face has all its vertices on one line; and what a mesh with a vertex more on that line owes to be geometric.
-use mathlib.Core.Path.{_≡_, sym, ap, _∙_}
+use mathlib.Core.Path.{_≡_, ap, _∙_}
 use mathlib.Core.Logic.{_⊎_}
 use Prim.Native.Nat.{ℕ, _+_, _<_, _≤_}
 use native.Mathlib.Omega.{arith}
-use lib.IntN.{negℤ}
 use Rattle.exact.specs.Plane.{Point}
-use Rattle.exact.proofs.Algebra.Signs.{_by_, is-zero, zero-sign-neg}
-use Rattle.exact.proofs.Geometry.Words.{Site, Orient, On, Apart, Between}
+use Rattle.exact.proofs.Algebra.Signs.{zero-sign-neg}
+use Rattle.exact.proofs.Geometry.Words.{Site, On, Apart, Between}
 use Rattle.exact.proofs.Geometry.Tests.{not-left←}
-use Rattle.exact.proofs.Geometry.Identities.Sides.{swap}
 use Rattle.exact.proofs.Geometry.Line.{on-three}
 use Rattle.exact.proofs.Geometry.LineOrder.{Before, between-order, order-between}
 use Rattle.dcel.specs.Map.{Map, twin}
 use Rattle.dcel.specs.Mesh.{Sound}
 use Rattle.dcel.specs.Geometry.{Geometric}
 use Rattle.dcel.specs.Legal.{Ready}
-use Rattle.dcel.proofs.Twins.{twin-twin}
-use Rattle.dcel.proofs.Sites.{site, outer-right, ends-apart}
+use Rattle.dcel.proofs.Sites.{site, ends-apart}
+use Rattle.dcel.proofs.NoFace.{all-outer, on-line}
 use Rattle.dcel.proofs.StrictlyBetween.{not-strictly-between←}
 use Rattle.dcel.proofs.Legal.NewVertex.{Fresh, each-vertex, apart-with-one}
 
-module _ (m : Map) (S : Sound m) (few : m .faces ≤ 1) where
-  pub all-outer : (e : ℕ) → e < m .half-edges → m .face e ≡ 0
-  all-outer e h = omega (arith, S .face-in e h)
-
-  -- nothing can be wrong
-  pub line-ready : (pos : ℕ → Point) (Listed : ℕ → Type 0) → Ready pos m Listed
-  line-ready pos Listed e h z = absurd (z (all-outer e h))
+-- nothing can be wrong
+pub line-ready : (m : Map) (S : Sound m) (few : m .faces ≤ 1) (pos : ℕ → Point) (Listed : ℕ → Type 0) → Ready pos m Listed
+line-ready m S few pos Listed e h z = absurd (z (all-outer S few e h))
 
 module _ (pos : ℕ → Point) (m : Map) (S : Sound m) (G : Geometric pos m) (few : m .faces ≤ 1) where
   abbrev s : ℕ → Site
   s = site G
-
-  pub on-line : (e : ℕ) → e < m .half-edges → (v : ℕ) → v < m .vertices → On (s (m .origin e)) (s (m .origin (twin e))) (s v)
-  on-line e h v l =
-      let a = s (m .origin e) in
-      let b = s (m .origin (twin e)) in
-      let there = outer-right G e h (all-outer m S few e h) v l in
-      let back = outer-right G (twin e) (S .twin-in e h) (all-outer m S few (twin e) (S .twin-in e h)) v l by ap (λ x. negℤ (Orient b (s (m .origin x)) (s v))) (sym (twin-twin e)) in
-      is-zero (back by swap a b (s v)) there
 
   -- ---- one vertex more, on the line of e
   module _ (n : Map) (N : Sound n) (same : n .faces ≡ m .faces) (more : n .vertices ≡ m .vertices + 1) (e : ℕ) (h : e < m .half-edges) (on : On (s (m .origin e)) (s (m .origin (twin e))) (s (m .vertices))) where
@@ -52,7 +38,7 @@ module _ (pos : ℕ → Point) (m : Map) (S : Sound m) (G : Geometric pos m) (fe
     ab = ends-apart S G e h
 
     pub all-on : (v : ℕ) → v < n .vertices → On a b (s v)
-    all-on = each-vertex (λ v. On a b (s v)) (m .vertices) (n .vertices) more (on-line e h) on
+    all-on = each-vertex (λ v. On a b (s v)) (m .vertices) (n .vertices) more (on-line S few G e h) on
 
     -- betweenness is order along e
     pub order-of : (u v z : ℕ) → u < n .vertices → z < n .vertices → Between (s u) (s v) (s z) → (Before a b (s u) (s z) × Before a b (s z) (s v)) ⊎ (Before a b (s v) (s z) × Before a b (s z) (s u))
@@ -66,7 +52,7 @@ module _ (pos : ℕ → Point) (m : Map) (S : Sound m) (G : Geometric pos m) (fe
         ((x : ℕ) → x < n .half-edges → n .next x ≡ twin x → (v : ℕ) → v < n .vertices → Between (s (n .origin x)) (s v) (s (n .origin (twin x))) → ⊥) →
         ((x y : ℕ) → x < n .half-edges → y < n .half-edges → n .origin x ≡ n .origin y → n .origin (twin x) ≡ n .origin (twin y) → x ≡ y) → Geometric pos n
     line-geometric fresh clear ends single = record {
-      left = λ x l z. absurd (z (all-outer n N (omega arith) x l));
+      left = λ x l z. absurd (z (all-outer N (omega arith) x l));
       right = λ x l z v k. not-left← _ _ _ (zero-sign-neg _ (on-three a b (s (n .origin x)) (s (n .origin (twin x))) (s v) ab (all-on _ (N .origin-in x l)) (all-on _ (N .origin-in (twin x) (N .twin-in x l))) (all-on v k)));
       clear = λ x l z v k. not-strictly-between← _ _ _ (clear x l v k);
       once = λ some. absurd (omega arith);

@@ -24,7 +24,7 @@ use Rattle.dcel.specs.Map.{Map, twin}
 use Rattle.dcel.specs.Mesh.{Sound}
 use Rattle.dcel.specs.Geometry.{Geometric}
 use Rattle.dcel.proofs.Twins.{twin-twin}
-use Rattle.dcel.proofs.Delaunay.FaceOrLine.{all-outer, on-edge-line}
+use Rattle.dcel.proofs.NoFace.{all-outer, on-line}
 use Rattle.dcel.proofs.Sites.{site, start, stop, same-vertex, none-between, stop-in, ends-apart}
 
 module _ {pos : ℕ → Point} {m : Map} (S : Sound m) (G : Geometric pos m) (flat : m .faces ≤ 1) where
@@ -74,7 +74,7 @@ module _ {pos : ℕ → Point} {m : Map} (S : Sound m) (G : Geometric pos m) (fl
     vw = rw begins at (ends-apart S G n hn)
 
     pub goes-on : Between s w v
-    goes-on = elim (between-one s v w (on-edge-line S G flat e h (m .origin (twin n)) (stop-in S n hn)) (ends-apart S G e h) sw vw) [
+    goes-on = elim (between-one s v w (on-line S flat G e h (m .origin (twin n)) (stop-in S n hn)) (ends-apart S G e h) sw vw) [
       | inl b ↦ absurd (none-between G e h (all-outer S flat e h) (m .origin (twin n)) (stop-in S n hn) b)
       | inr r ↦ elim r [
         | inl b ↦ b
@@ -88,8 +88,8 @@ module _ {pos : ℕ → Point} {m : Map} (S : Sound m) (G : Geometric pos m) (fl
     still-past z i t =
         let r = each-in (site G) (up-to (m .vertices)) z i in let l = up-to→ (m .vertices) (r .0) (r .1) in
         let far : Sign true (negℤ (Dot w v z)) = rw begins at (above?→ (negℤ (Dot w (start G n) z)) t) in
-        let line : On v w z = subst (λ (y : Site). On v w y) (sym (r .2)) (rw begins at (on-edge-line S G flat n hn (r .0) l)) in
-        let here : On s v z = subst (λ (y : Site). On s v y) (sym (r .2)) (on-edge-line S G flat e h (r .0) l) in
+        let line : On v w z = subst (λ (y : Site). On v w y) (sym (r .2)) (rw begins at (on-line S flat G n hn (r .0) l)) in
+        let here : On s v z = subst (λ (y : Site). On s v y) (sym (r .2)) (on-line S flat G e h (r .0) l) in
         above?← (negℤ (Dot v s z)) (extend-end s v w z goes-on here (record { on = omega (arith, ints, orders v w z); opposite = far }) .opposite)
 
     pub fewer-ahead : left-ahead n < left-ahead e
@@ -124,7 +124,7 @@ module _ {pos : ℕ → Point} {m : Map} (S : Sound m) (G : Geometric pos m) (fl
         sv = ends-apart S G e h
 
         here : On s₁ v₁ w₁
-        here = on-edge-line S G flat e h (m .origin (twin (m .next e))) (stop-in S (m .next e) (hn e h on))
+        here = on-line S flat G e h (m .origin (twin (m .next e))) (stop-in S (m .next e) (hn e h on))
 
         line : On v₁ w₁ p
         line = on-three s₁ v₁ v₁ w₁ p sv (end-on s₁ v₁) here (f .on-line)

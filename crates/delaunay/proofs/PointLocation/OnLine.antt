@@ -25,7 +25,7 @@ use Rattle.dcel.specs.Memory.{cell, map-of}
 use Rattle.dcel.specs.Geometry.{Geometric}
 use Rattle.dcel.proofs.Twins.{twin-twin}
 use Rattle.dcel.proofs.StrictlyBetween.{strictly-between←}
-use Rattle.dcel.proofs.Delaunay.FaceOrLine.{all-outer}
+use Rattle.dcel.proofs.NoFace.{all-outer}
 use Rattle.dcel.proofs.Sites.{start, stop, stop-in, ends-apart}
 use Rattle.delaunay.specs.Places.{place-of}
 use Rattle.delaunay.specs.Where.{Where}

@@ -36,14 +36,14 @@ pub record FaceListed (g : Map) (l : List ℕ) (e : ℕ) : Type 0 where
   pub next : EdgeListed (Half-listed l) (g .next e)
   pub prev : EdgeListed (Half-listed l) (g .prev e)
 
-sides-below : (g : Map) → Sound g → (es : List ℕ) → AllBelow (g .half-edges) es → AllBelow (g .half-edges) (sides-of g es)
+pub sides-below : (g : Map) → Sound g → (es : List ℕ) → AllBelow (g .half-edges) es → AllBelow (g .half-edges) (sides-of g es)
 sides-below g S [] h x k = absurd k
 sides-below g S (e ∷ es) h x (inl q) = omega (arith, S .prev-in e (h e (inl refl)))
 sides-below g S (e ∷ es) h x (inr (inl q)) = omega (arith, S .next-in e (h e (inl refl)))
 sides-below g S (e ∷ es) h x (inr (inr (inl q))) = omega (arith, h e (inl refl))
 sides-below g S (e ∷ es) h x (inr (inr (inr k))) = sides-below g S es (λ f a. h f (inr a)) x k
 
-sides-listed : (g : Map) (l es : List ℕ) → ((x : ℕ) → In x (sides-of g es) → Among-listed (x / 2) l) → (e : ℕ) → In e es → FaceListed g l e
+pub sides-listed : (g : Map) (l es : List ℕ) → ((x : ℕ) → In x (sides-of g es) → Among-listed (x / 2) l) → (e : ℕ) → In e es → FaceListed g l e
 sides-listed g l [] h e k = absurd k
 sides-listed g l (f ∷ es) h e (inl q) = subst (FaceListed g l) (sym q) (record { here = edge-on l f (h f (inr (inr (inl refl)))); next = edge-on l (g .next f) (h (g .next f) (inr (inl refl))); prev = edge-on l (g .prev f) (h (g .prev f) (inl refl)) })
 sides-listed g l (f ∷ es) h e (inr k) = sides-listed g l es (λ x a. h x (inr (inr (inr a)))) e k

@@ -7,7 +7,7 @@ use Prim.Native.Nat.{ℕ, _<_}
 use native.Mathlib.Omega.{arith}
 use lib.ListN.{length}
 use lib.IntN.{_+ℤ_, negℤ}
-use Rattle.exact.specs.Plane.{or, any, Point, Vertex, spot, Tri, goes, outer-edge, on-a-line, all-numbers}
+use Rattle.exact.specs.Plane.{or, Point, Vertex, spot, Tri, goes, outer-edge, on-a-line, all-numbers}
 use Rattle.exact.proofs.Booleans.{is-false, true-false, or→, or-right, and-left, and-right, and←, not→, not←}
 use Rattle.exact.proofs.Lists.{In, any→, any←, up-to←}
 use Rattle.exact.proofs.Vertices.{site, Rot, rot-next, rot-goes, goes-rot}

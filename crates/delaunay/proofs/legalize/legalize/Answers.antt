@@ -1,6 +1,5 @@
 use borrow.Author.Needs.{needs}
 use Rattle.delaunay.specs.Legalize.{settle, settle-fuel, legalized}
-use Rattle.delaunay.specs.Worklist.{first-listed}
 use Rattle.delaunay.proofs.Loops.{iterate-none, iterate-stop, iterate-on}
 use Rattle.delaunay.proofs.Listed.{popped-none, settle-none}
 use Rattle.delaunay.proofs.legalize.legalize.Needs as need

@@ -1,0 +1,15 @@
+pub mod OneMore
+pub mod Put
+pub mod InFace
+pub mod BetweenFaces
+pub mod OnHull
+pub mod OnLine
+pub mod Ears
+pub mod EarLoops
+pub mod Outside
+pub mod Anywhere
+pub mod First
+pub mod OneWord
+pub mod Told
+pub mod Standing
+pub mod Inserted

@@ -1,0 +1,11 @@
+pub mod Numbered
+pub mod Modes
+pub mod Running
+pub mod Houses
+pub mod Grown
+pub mod Inserting
+pub mod Listing
+pub mod Clearing
+pub mod Core
+pub mod Steadiness
+pub mod Whole
