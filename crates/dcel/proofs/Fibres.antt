@@ -4,7 +4,8 @@ use mathlib.Core.Logic.{inl, inr, _≢_}
 use Prim.Native.Nat.{ℕ, zero, suc, _+_, _≤_, _<_}
 use native.Mathlib.Omega.{arith}
 use native.Mathlib.Decide.{ℕ-discrete, decLt}
-use Rattle.exact.proofs.Sums.{sum, sum-same, sum-plus, sum-zero, sum-swap, sum-one, only, only-same, only-other, sum-only}
+use Rattle.exact.specs.Sums.{sum}
+use Rattle.exact.proofs.Sums.{sum-same, sum-plus, sum-zero, sum-swap, sum-one, only, only-same, only-other, sum-only}
 use Rattle.dcel.specs.Mesh.{Among}
 
 pub sum-first : (f : ℕ → ℕ) (n : ℕ) → sum f (suc n) ≡ f 0 + sum (λ i. f (suc i)) n

@@ -2,7 +2,7 @@
 -- Of a face that is twice its area times the heights of its three corners.
 use Prim.Native.Nat.{ℕ, suc, _+_, _*_, _-_}
 use Rattle.exact.specs.Plane.{Point, side}
-use Rattle.exact.proofs.Sums.{sum}
+use Rattle.exact.specs.Sums.{sum}
 use Rattle.dcel.specs.Map.{Map}
 use Rattle.dcel.specs.Geometry.{from, to, apex}
 

@@ -4,7 +4,6 @@ pub mod Sums
 pub mod Vertices
 pub mod Algebra
 pub mod Geometry
-pub mod Theorems
 pub mod Numbers
 pub mod Determinants
 pub mod Vectors

@@ -1,3 +1,4 @@
+pub mod FourPoints
 pub mod Words
 pub mod Tilings
 pub mod OnlyOne

@@ -7,12 +7,9 @@ use Prim.Native.Nat.{ℕ, zero, suc, _+_, _*_, _≤_, _<_}
 use native.Mathlib.Omega.{arith}
 use lib.Dec.{eqb}
 use Rattle.exact.specs.Plane.{up-to}
+use Rattle.exact.specs.Sums.{sum}
 use Rattle.exact.proofs.Booleans.{bit, either, eqb→, eqb←, eqb-false→, eqb-false←}
 use Rattle.exact.proofs.Lists.{In, count}
-
-unfoldable pub sum : (ℕ → ℕ) → ℕ → ℕ
-sum f zero = 0
-sum f (suc n) = f n + sum f n
 
 pub sum-same : (f g : ℕ → ℕ) (n : ℕ) → ((i : ℕ) → i < n → f i ≡ g i) → sum f n ≡ sum g n
 unfolding sum

@@ -1,3 +1,4 @@
 pub mod Plane
 pub mod Signed
 pub mod Verdicts
+pub mod Sums

@@ -6,7 +6,7 @@ use native.Mathlib.Omega.{arith}
 use lib.IntN.{pos as whole, _+ℤ_}
 use borrow.Author.Differences.{ints}
 use Rattle.exact.specs.Plane.{Point}
-use Rattle.exact.proofs.Sums.{sum}
+use Rattle.exact.specs.Sums.{sum}
 use Rattle.exact.proofs.Geometry.Words.{Site, Incircle, Volume}
 use Rattle.exact.proofs.Geometry.Identities.Circles.{volume-turn, volume-flip}
 use Rattle.dcel.specs.Pairs.{All}

@@ -5,7 +5,8 @@ use mathlib.Core.Logic.{inl, inr, _≢_}
 use Prim.Native.Nat.{ℕ, zero, suc, _+_, _*_, _<_, _≤_}
 use native.Mathlib.Omega.{arith}
 use native.Mathlib.Decide.{ℕ-discrete}
-use Rattle.exact.proofs.Sums.{sum, sum-same, sum-mono, sum-const}
+use Rattle.exact.specs.Sums.{sum}
+use Rattle.exact.proofs.Sums.{sum-same, sum-mono, sum-const}
 use Rattle.dcel.specs.Pairs.{changed}
 use Rattle.dcel.proofs.Changes.{changed-at, changed-off}
 

@@ -4,7 +4,8 @@ use mathlib.Core.Bool.{true, false}
 use Prim.Native.Nat.{ℕ, suc, _+_, _-_, _/_, _%_, _≤_, _<_}
 use native.Mathlib.Omega.{arith}
 use Rattle.exact.specs.Plane.{Point}
-use Rattle.exact.proofs.Sums.{sum, sum-same, sum-plus}
+use Rattle.exact.specs.Sums.{sum}
+use Rattle.exact.proofs.Sums.{sum-same, sum-plus}
 use Rattle.exact.proofs.Algebra.Signs.{Sign}
 use Rattle.exact.proofs.Geometry.Words.{W}
 use Rattle.exact.proofs.Geometry.Crossings.{crossing, rightward, leftward, leftward-≤, inside-leftward, leftward-inside}

@@ -5,7 +5,8 @@ use Prim.Native.Nat.{ℕ, suc, _-_, _≤_, _<_}
 use native.Mathlib.Omega.{arith}
 use native.Mathlib.Decide.{ℕ-discrete, decLt}
 use Rattle.exact.specs.Plane.{Point}
-use Rattle.exact.proofs.Sums.{sum, sum-zero, only, only-same, only-other, sum-one}
+use Rattle.exact.specs.Sums.{sum}
+use Rattle.exact.proofs.Sums.{sum-zero, only, only-same, only-other, sum-one}
 use Rattle.exact.proofs.Algebra.Signs.{_by_, clash-below}
 use Rattle.exact.proofs.Geometry.Words.{W-sign, orient}
 use Rattle.exact.proofs.Geometry.Identities.Sides.{swap-place}

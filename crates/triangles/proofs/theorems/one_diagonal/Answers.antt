@@ -1,4 +1,4 @@
-use Rattle.exact.proofs.Theorems.{one-diagonal}
+use Rattle.exact.proofs.Statements.FourPoints.{one-diagonal}
 use Rattle.triangles.specs.Promise.{One-diagonal}
 use Rattle.triangles.proofs.theorems.one_diagonal.Needs as need
 

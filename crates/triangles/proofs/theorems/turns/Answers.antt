@@ -1,4 +1,4 @@
-use Rattle.exact.proofs.Theorems.{turns}
+use Rattle.exact.proofs.Statements.FourPoints.{turns}
 use Rattle.triangles.specs.Promise.{Turns}
 use Rattle.triangles.proofs.theorems.turns.Needs as need
 
