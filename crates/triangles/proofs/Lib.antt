@@ -1,4 +1,5 @@
 pub mod Words
+pub mod PointWords
 pub mod Digits
 pub mod Rows
 pub mod Apart

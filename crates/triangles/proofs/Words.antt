@@ -12,12 +12,13 @@ use lib.Seq.{drop-cons}
 use Rattle.std.proofs.shelf.Lists.{drop-all}
 use Rattle.std.proofs.shelf.Tests.{ne-eqb}
 use Rattle.triangles.specs.declared.request.Request.{Request}
+use Rattle.triangles.specs.declared.line.Line.{Line}
 use Rattle.triangles.specs.declared.line.Line.the-variants.{Nothing, Said, NotUnderstood}
 use Rattle.std.specs.declared.option.Option.{Option}
 use Rattle.std.specs.declared.option.Option.the-variants.{None, Some}
 use Rattle.exact.specs.Plane.{pick, those, none-of}
 use Rattle.triangles.specs.Word.{fits, front, trimmed, first, rest-after, up-to-empty, up-to-four}
-use Rattle.triangles.specs.Line.{pieces, begin, full, words, alone, with-one, with-two, with-three, understood, said-by, request-of, line-says}
+use Rattle.triangles.specs.Line.{pieces, begin, full, words, alone, with-one, with-two, with-three, understood, unless-remark, said-by, request-of, line-says}
 
 -- ---- the length of a front, counted by a loop
 front-at : (s : Bool) (xs : List ℕ) (i : ℕ) → i < length xs → front s (drop i xs) ≡ pick (fits s (getD xs i 0)) (suc (front s (drop (suc i) xs))) 0
@@ -94,6 +95,9 @@ pub words-are : (line : List ℕ) → words line ≡ up-to-empty (first line) (w
 unfolding first rest-after
 words-are line = trim-words line ∙ cut-words (trimmed line) (trim-empty line)
 
+words-after : (l m : List ℕ) → m ≡ rest-after l → words l ≡ up-to-empty (first l) (words m)
+words-after l m e = words-are l ∙ ap (λ (x : List ℕ). up-to-empty (first l) (words x)) (sym e)
+
 -- what follows a fifth word makes no difference
 more-or-none : (v a b c d : List ℕ) (more : List (List ℕ)) → said-by (up-to-empty v (up-to-four a b c d more)) ≡ said-by (up-to-empty v (up-to-four a b c d []))
 unfolding up-to-four none-of request-of
@@ -104,17 +108,19 @@ more-or-none (v ∷ vs) (a ∷ as₁) (b ∷ bs) [] d more = refl
 more-or-none (v ∷ vs) (a ∷ as₁) (b ∷ bs) (c ∷ cs) [] more = refl
 more-or-none (v ∷ vs) (a ∷ as₁) (b ∷ bs) (c ∷ cs) (d ∷ ds) more = refl
 
--- a line is read by its first five words, each the first of what is left of it
+-- the first four words, each the first of what is left of the text
+pub four-words : (l₀ l₁ l₂ l₃ : List ℕ) → l₁ ≡ rest-after l₀ → l₂ ≡ rest-after l₁ → l₃ ≡ rest-after l₂ →
+    words l₀ ≡ up-to-four (first l₀) (first l₁) (first l₂) (first l₃) (words (rest-after l₃))
+unfolding up-to-four
+four-words l₀ l₁ l₂ l₃ e₁ e₂ e₃ = rw (words-after l₀ l₁ e₁, words-after l₁ l₂ e₂, words-after l₂ l₃ e₃, words-are l₃) refl
+
+-- a line is read by its first five words
 pub five-say : (l₀ l₁ l₂ l₃ l₄ : List ℕ) → l₁ ≡ rest-after l₀ → l₂ ≡ rest-after l₁ → l₃ ≡ rest-after l₂ → l₄ ≡ rest-after l₃ →
     said-by (up-to-empty (first l₀) (up-to-four (first l₁) (first l₂) (first l₃) (first l₄) [])) ≡ line-says l₀
-unfolding up-to-four
 five-say l₀ l₁ l₂ l₃ l₄ e₁ e₂ e₃ e₄ = sym (ap said-by all ∙ more-or-none (first l₀) (first l₁) (first l₂) (first l₃) (first l₄) (words (rest-after l₄)))
   where
-    after : (l m : List ℕ) → m ≡ rest-after l → words l ≡ up-to-empty (first l) (words m)
-    after l m e = words-are l ∙ ap (λ (x : List ℕ). up-to-empty (first l) (words x)) (sym e)
-
     all : words l₀ ≡ up-to-empty (first l₀) (up-to-four (first l₁) (first l₂) (first l₃) (first l₄) (words (rest-after l₄)))
-    all = rw (after l₀ l₁ e₁, after l₁ l₂ e₂, after l₂ l₃ e₃, after l₃ l₄ e₄, words-are l₄) refl
+    all = words-after l₀ l₁ e₁ ∙ ap (up-to-empty (first l₀)) (four-words l₁ l₂ l₃ l₄ e₂ e₃ e₄)
 
 -- ---- what words say, told apart by which are empty
 none-is : (w : List ℕ) → none-of w ≡ eqb (length w) 0
@@ -156,19 +162,27 @@ module _ (v a b c d : List ℕ) where
         says-too-much h = rw (up-to-empty-goes a _ ha, up-to-empty-goes b _ hb, up-to-empty-goes c _ hc, up-to-empty-goes d _ h) refl
 
 -- a blank line or a remark, and any other
-pub says-nothing : (v : List ℕ) (ws : List (List ℕ)) → (length v ≡ 0) ⊎ (getD v 0 0 ≡ 35) → Nothing ≡ said-by (up-to-empty v ws)
+pub passed-over : {A : Type 0} (nothing : A) (read : List (List ℕ) → A) (v : List ℕ) (ws : List (List ℕ)) →
+    (length v ≡ 0) ⊎ (getD v 0 0 ≡ 35) → nothing ≡ unless-remark nothing read (up-to-empty v ws)
 unfolding none-of
-says-nothing [] ws h = refl
-says-nothing (x ∷ v) ws (inl e) = absurd (omega arith)
-says-nothing (x ∷ v) ws (inr e) = rw e refl
+passed-over nothing read [] ws h = refl
+passed-over nothing read (x ∷ v) ws (inl e) = absurd (omega arith)
+passed-over nothing read (x ∷ v) ws (inr e) = rw e refl
 
-says-read : (v : List ℕ) (ws : List (List ℕ)) → 0 < length v → (getD v 0 0 ≡ 35 → ⊥) → understood (request-of (v ∷ ws)) ≡ said-by (up-to-empty v ws)
+pub heeded : {A : Type 0} (nothing : A) (read : List (List ℕ) → A) (v : List ℕ) (ws : List (List ℕ)) →
+    0 < length v → (getD v 0 0 ≡ 35 → ⊥) → read (v ∷ ws) ≡ unless-remark nothing read (up-to-empty v ws)
 unfolding none-of
-says-read [] ws h n = absurd (omega arith)
-says-read (x ∷ v) ws h n = rw (ne-eqb x 35 n) refl
+heeded nothing read [] ws h n = absurd (omega arith)
+heeded nothing read (x ∷ v) ws h n = rw (ne-eqb x 35 n) refl
+
+abbrev request-line : List (List ℕ) → Line
+request-line ws = understood (request-of ws)
+
+pub says-nothing : (v : List ℕ) (ws : List (List ℕ)) → (length v ≡ 0) ⊎ (getD v 0 0 ≡ 35) → Nothing ≡ said-by (up-to-empty v ws)
+says-nothing v ws h = passed-over Nothing request-line v ws h
 
 pub says-said : (v : List ℕ) (ws : List (List ℕ)) (q : Request) → 0 < length v → (getD v 0 0 ≡ 35 → ⊥) → Some q ≡ request-of (v ∷ ws) → Said q ≡ said-by (up-to-empty v ws)
-says-said v ws q h n e = ap understood e ∙ says-read v ws h n
+says-said v ws q h n e = ap understood e ∙ heeded Nothing request-line v ws h n
 
 pub says-not : (v : List ℕ) (ws : List (List ℕ)) → 0 < length v → (getD v 0 0 ≡ 35 → ⊥) → None ≡ request-of (v ∷ ws) → NotUnderstood ≡ said-by (up-to-empty v ws)
-says-not v ws h n e = ap understood e ∙ says-read v ws h n
+says-not v ws h n e = ap understood e ∙ heeded Nothing request-line v ws h n

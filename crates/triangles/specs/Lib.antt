@@ -5,6 +5,7 @@ pub mod Outcome
 pub mod Entry
 pub mod Request
 pub mod Line
+pub mod PointLine
 pub mod Word
 pub mod Examples
 pub mod Small

@@ -82,9 +82,12 @@ abbrev pub remark : List ℕ → Bool
 remark [] = false
 remark (b ∷ bs) = eqb b 35
 
+abbrev pub unless-remark : {A : Type 0} → A → (List (List ℕ) → A) → List (List ℕ) → A
+unless-remark nothing read [] = nothing
+unless-remark nothing read (w ∷ ws) = pick (remark w) nothing (read (w ∷ ws))
+
 abbrev pub said-by : List (List ℕ) → Line
-said-by [] = Nothing
-said-by (w ∷ ws) = pick (remark w) Nothing (understood (request-of (w ∷ ws)))
+said-by = unless-remark Nothing (λ ws. understood (request-of ws))
 
 -- blank lines and remarks say nothing
 abbrev pub line-says : List ℕ → Line

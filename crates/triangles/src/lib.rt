@@ -15,8 +15,10 @@ use exact::verdict::Side;
 pub mod examples;
 pub mod line;
 mod machine;
+pub mod points;
 pub mod request;
 pub mod theorems;
+mod word;
 
 #[derive(Clone, Copy)]
 pub enum Reply {

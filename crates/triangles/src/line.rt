@@ -1,10 +1,12 @@
 // Reading a line of text as a request.
 ghost use mathlib.Core.Path.{_≡_};
 ghost use mathlib.Core.List.{[], _∷_};
-ghost use Rattle.triangles.specs.Line.{line-says, said-by, request-of, number as number-in, alone as says-alone, with-one as says-with-one, with-two as says-with-two, with-three as says-with-three};
+ghost use Rattle.triangles.specs.Line.{line-says, said-by, request-of, alone as says-alone, with-one as says-with-one, with-two as says-with-two, with-three as says-with-three};
 ghost use Rattle.std.specs.shelf.Text.{sameBytes};
-ghost use Rattle.triangles.specs.Word.{front, first, rest-after, up-to-empty, up-to-four};
+ghost use Rattle.triangles.specs.Word.{up-to-empty, up-to-four};
 use crate::request::Request;
+use crate::word::first_word;
+use crate::word::number;
 
 #[derive(Clone, Copy)]
 pub enum Line {
@@ -121,48 +123,4 @@ fn same(word: &[u8], text: &[u8]) -> bool
     ensures { λ r. ⌜ r ≡ sameBytes (now (word .entry)) (now (text .entry)) ⌝ }
 {
     word == text
-}
-
-// A number in decimal digits, below 2^64.
-fn number(word: &[u8]) -> Option<u64>
-    ensures { λ r. ⌜ r ≡ number-in (now (word .entry)) ⌝ }
-{
-    if word.is_empty() {
-        return None;
-    }
-    let mut n = 0u64;
-    for b in word {
-        if *b < b'0' || *b > b'9' {
-            return None;
-        }
-        let Some(tens) = n.checked_mul(10) else {
-            return None;
-        };
-        let Some(sum) = tens.checked_add(u64::from(*b - b'0')) else {
-            return None;
-        };
-        n = sum;
-    }
-    Some(n)
-}
-
-// The first word and what is after it; an empty word where there is none.
-fn first_word(line: &[u8]) -> (&[u8], &[u8])
-    ensures word { λ r. ⌜ now (r .0) ≡ first (now (line .entry)) ⌝ }
-    ensures rest { λ r. ⌜ now (r .1) ≡ rest-after (now (line .entry)) ⌝ }
-{
-    let (_, start) = line.split_at(front_len(line, true));
-    start.split_at(front_len(start, false))
-}
-
-// How many bytes at the front are spaces, or are none.
-fn front_len(line: &[u8], spaces: bool) -> usize
-    ensures { λ r. ⌜ r ≡ front spaces (now (line .entry)) ⌝ }
-{
-    for (i, b) in line.iter().enumerate() {
-        if (*b == b' ') != spaces {
-            return i;
-        }
-    }
-    line.len()
 }

@@ -1,7 +1,7 @@
 use borrow.Author.Needs.{needs}
 use Rattle.triangles.proofs.Words.{front-short}
 use Rattle.triangles.specs.Word.{first, rest-after}
-use Rattle.triangles.proofs.line.first_word.Needs as need
+use Rattle.triangles.proofs.word.first_word.Needs as need
 
 pub split-at-requires : need.split-at-requires
 split-at-requires c = search (needs, front-short)

@@ -1,7 +1,7 @@
 use borrow.Author.Needs.{needs}
 use Rattle.triangles.proofs.Words.{front-more, front-stop, front-all}
 use Rattle.std.proofs.shelf.Ways.{tells}
-use Rattle.triangles.proofs.line.front_len.Needs as need
+use Rattle.triangles.proofs.word.front_len.Needs as need
 
 pub loop-i-again : need.loop-i-again
 loop-i-again c = search (needs, tells, front-more)

@@ -1,6 +1,6 @@
 use borrow.Author.Needs.{needs}
 use Rattle.triangles.proofs.Digits.{number-all, number-stop, number-more, number-large}
-use Rattle.triangles.proofs.line.number.Needs as need
+use Rattle.triangles.proofs.word.number.Needs as need
 
 pub returns-then-b-lt48 : need.returns-then-b-lt48
 returns-then-b-lt48 c = search (needs, number-stop)
