@@ -1,4 +1,6 @@
 // Runs one part of the triangulation N times, and prints how many vertices and faces there are then: for counting instructions.
+#![tactic(auto)]
+
 mod runs;
 
 use anyhow::Context;

@@ -1,4 +1,6 @@
 // Runs one of the two tests on N positions, and prints what it told: for counting instructions.
+#![tactic(auto)]
+
 mod runs;
 
 use anyhow::Context;

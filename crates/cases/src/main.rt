@@ -1,4 +1,6 @@
 // Goes through cases, points in and what must come out, and tells how many hold.
+#![tactic(auto)]
+
 mod asked;
 mod expected;
 mod fault;

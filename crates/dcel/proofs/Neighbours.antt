@@ -56,7 +56,7 @@ in_triangle m S e h z =
       origin_prev = ap m.origin (sym next_next) ∙ S.origin_next (m.next e) next_in;
       origin_here = ap m.origin (sym next_prev) ∙ S.origin_next (m.prev e) prev_in;
       face_in = S.face_in e h;
-      edge_is = subst (λ x. Among (m.edge (m.face e)) e (m.next e) x) next_next (S.Edge_of e h z);
+      edge_is = subst (λ x. Among (m.edge (m.face e)) e (m.next e) x) next_next (S.edge_of e h z);
     }
 
 -- the twins of new pairs

@@ -1,4 +1,6 @@
 // A triangulation as half edges in a lent slice of words: what is read, what is written, and the surgeries that keep it a mesh.
+#![tactic(auto)]
+
 mod accessors;
 mod attaching;
 mod flipping;

@@ -1,4 +1,6 @@
 // Small meshes that are built and walked round, as tests. They have a crate of their own, so that what they test is proved once.
+#![tactic(auto)]
+
 #[cfg(test)]
 mod tests {
     use dcel::{
@@ -6,6 +8,7 @@ mod tests {
         half_edges, next, origin, out, prev, put_first, put_second, split_face, split_hull_edge,
         split_line_end, twin, vertices, x,
     };
+    use std::alloc::AllocError;
     use std::process::Abort;
 
     // A line of three vertices: once round it and back.
@@ -72,20 +75,23 @@ mod tests {
     }
 
     #[test]
-    fn line(rt: HostRuntime) {
-        let mut memory = [0u64; 540688];
+    fn line(rt: HostRuntime) -> Result<(), AllocError> {
+        let mut memory = vec![in rt.alloc(); 0u64; 540688]?;
         build_line(&rt, &mut memory);
+        Ok(())
     }
 
     #[test]
-    fn star(rt: HostRuntime) {
-        let mut memory = [0u64; 540688];
+    fn star(rt: HostRuntime) -> Result<(), AllocError> {
+        let mut memory = vec![in rt.alloc(); 0u64; 540688]?;
         build_star(&rt, &mut memory);
+        Ok(())
     }
 
     #[test]
-    fn quadrilateral(rt: HostRuntime) {
-        let mut memory = [0u64; 540688];
+    fn quadrilateral(rt: HostRuntime) -> Result<(), AllocError> {
+        let mut memory = vec![in rt.alloc(); 0u64; 540688]?;
         build_quadrilateral(&rt, &mut memory);
+        Ok(())
     }
 }

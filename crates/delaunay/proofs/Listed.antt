@@ -1,5 +1,5 @@
 -- The list of edges to look at.
-use Rattle.std.proofs.Common.{◌≡◌, ℕ, ◌-◌, Bool, true, false, eqb, List, Some, None, sym, refl, arith}
+use Rattle.std.proofs.Common.{◌≡◌, ℕ, Bool, true, false, eqb, List, Some, None, sym, refl, arith}
 use Rattle.exact.specs.Plane.{pick}
 use Rattle.dcel.specs.Layout.{Size}
 use Rattle.delaunay.specs.Worklist.{head_of, first_listed, popped}

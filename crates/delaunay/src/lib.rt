@@ -1,4 +1,6 @@
 // Walking to a point, the vertex nearest to it, putting it in, and flipping till every edge is right, on half edges in lent memory.
+#![tactic(auto)]
+
 pub mod insert;
 pub mod legalize;
 pub mod locate;

@@ -1,4 +1,6 @@
 // Points, numbers and the two tests of the plane.
+#![tactic(auto)]
+
 pub mod plane;
 pub mod position;
 pub mod signed;

@@ -1,4 +1,6 @@
 // The triangulation at a keyboard: a command to a line, what is shown and how it ended in answer.
+#![tactic(auto)]
+
 use std::io;
 use std::io::{BufRead, BufReader};
 use triangles::line::{Line, read_line};

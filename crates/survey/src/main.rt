@@ -1,4 +1,6 @@
 // The points of a file, and their triangles: rows of vertex numbers, or a picture; or where a place lies among them.
+#![tactic(auto)]
+
 use crate::picture::draw;
 use crate::places::{look_up, tell};
 use crate::points::{faces, put_points};

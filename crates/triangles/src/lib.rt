@@ -1,4 +1,6 @@
 // The triangulation as a machine: one step over lent memory, and the entry that tells where a point lies to a small circle.
+#![tactic(auto)]
+
 ghost use Rattle.std.specs.Prelude.{◌≡◌, [], ◌∷◌};
 ghost use Rattle.exact.specs.Plane.{point};
 ghost use Rattle.triangles.specs.Entry.{CircleSays, circle_fits, StepSays, step_fits, smaller};

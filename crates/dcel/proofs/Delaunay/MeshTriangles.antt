@@ -39,7 +39,7 @@ module _ {m : Map} (S : Sound m) where
   listed e i = let z = i.1 in numbered← m.edge m.faces (m.face e) (omega (arith, z)) (S.face_in e i.0)
 
   in_list : (e : ℕ) → Inner m e → In e (face_edges m) ⊎ (In (m.next e) (face_edges m) ⊎ In (m.next (m.next e)) (face_edges m))
-  in_list e i = elim (S.Edge_of e i.0 i.1) [
+  in_list e i = elim (S.edge_of e i.0 i.1) [
     | inl q ↦ inl (subst (λ (d : ℕ). In d (face_edges m)) q (listed e i))
     | inr r ↦ elim r [
       | inl q ↦ inr (inl (subst (λ (d : ℕ). In d (face_edges m)) q (listed e i)))

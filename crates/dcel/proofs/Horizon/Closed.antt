@@ -83,7 +83,7 @@ module _ {pos : ℕ → Point} {m₀ m : Map} {a b : ℕ} (B : Placed pos m₀) 
   each_outer : (Q : ℕ → ℕ → Type 0) → Q (m₀.origin first) m₀.vertices → Q m₀.vertices (m₀.origin (twin last)) → ((x : ℕ) → Outer m₀ x → m.face x ≡ 0 → Q (m₀.origin x) (m₀.origin (twin x))) →
       (x : ℕ) → x < m.half_edges → m.face x ≡ 0 → Q (m.origin x) (m.origin (twin x))
   each_outer Q f g k x l z = elim (O.others x l z) [
-    | inl q ↦ at (ap m.origin q ∙ O.from_First) (ap (λ (y : ℕ). m.origin (twin y)) q ∙ end_a B S O) f
+    | inl q ↦ at (ap m.origin q ∙ O.from_first) (ap (λ (y : ℕ). m.origin (twin y)) q ∙ end_a B S O) f
     | inr r ↦ elim r [
       | inl q ↦ at (ap m.origin q ∙ O.at_p) (ap (λ (y : ℕ). m.origin (twin y)) q ∙ O.to_last) g
       | inr o ↦ at (O.grown.origin_old x o.in_e) (O.grown.origin_old (twin x) (B.mesh.sound.twin_in x o.in_e)) (k x o z)
@@ -118,12 +118,12 @@ module _ {pos : ℕ → Point} {m₀ m : Map} {a b : ℕ} (B : Placed pos m₀) 
 
   once : (x y : ℕ) → m.face x ≡ 0 → m.face y ≡ 0 → m.origin x ≡ m.origin y → Kind x → Kind y → x ≡ y
   once x y zx zy q (inl f) (inl g) = f ∙ sym g
-  once x y zx zy q (inl f) (inr (inl g)) = absurd (omega (arith, in_start B first first_was, sym O.from_First ∙ ap m.origin (sym f) ∙ q ∙ ap m.origin g ∙ O.at_p))
-  once x y zx zy q (inl f) (inr (inr o)) = absurd (not_first y o zy (sym O.from_First ∙ ap m.origin (sym f) ∙ q ∙ O.grown.origin_old y o.in_e))
-  once x y zx zy q (inr (inl f)) (inl g) = absurd (omega (arith, in_start B first first_was, sym O.from_First ∙ ap m.origin (sym g) ∙ sym q ∙ ap m.origin f ∙ O.at_p))
+  once x y zx zy q (inl f) (inr (inl g)) = absurd (omega (arith, in_start B first first_was, sym O.from_first ∙ ap m.origin (sym f) ∙ q ∙ ap m.origin g ∙ O.at_p))
+  once x y zx zy q (inl f) (inr (inr o)) = absurd (not_first y o zy (sym O.from_first ∙ ap m.origin (sym f) ∙ q ∙ O.grown.origin_old y o.in_e))
+  once x y zx zy q (inr (inl f)) (inl g) = absurd (omega (arith, in_start B first first_was, sym O.from_first ∙ ap m.origin (sym g) ∙ sym q ∙ ap m.origin f ∙ O.at_p))
   once x y zx zy q (inr (inl f)) (inr (inl g)) = f ∙ sym g
   once x y zx zy q (inr (inl f)) (inr (inr o)) = absurd (omega (arith, in_start B y o, sym O.at_p ∙ ap m.origin (sym f) ∙ q ∙ O.grown.origin_old y o.in_e))
-  once x y zx zy q (inr (inr o)) (inl g) = absurd (not_first x o zx (sym O.from_First ∙ ap m.origin (sym g) ∙ sym q ∙ O.grown.origin_old x o.in_e))
+  once x y zx zy q (inr (inr o)) (inl g) = absurd (not_first x o zx (sym O.from_first ∙ ap m.origin (sym g) ∙ sym q ∙ O.grown.origin_old x o.in_e))
   once x y zx zy q (inr (inr o)) (inr (inl g)) = absurd (omega (arith, in_start B x o, sym O.at_p ∙ ap m.origin (sym g) ∙ sym q ∙ O.grown.origin_old x o.in_e))
   once x y zx zy q (inr (inr o)) (inr (inr r)) = same_hidden B first first_was O.first_covered.seen x y o r (sym (O.grown.origin_old x o.in_e) ∙ q ∙ O.grown.origin_old y r.in_e) (hidden x o zx) (hidden y r zy)
 

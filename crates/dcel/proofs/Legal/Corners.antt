@@ -24,7 +24,7 @@ module _ (P : ℕ → ℕ → ℕ → Type 0) (turned : (a b c : ℕ) → P a b 
   corners_next e h z c = let k = in_triangle m S e h z in rw (k.origin_next, sym k.origin_prev, k.prev_next) (turned _ _ _ c)
 
   pub corners_of_face : (e : ℕ) → e < m.half_edges → m.face e ≢ 0 → Corners P m (m.edge (m.face e)) → Corners P m e
-  corners_of_face e h z c = elim (S.Edge_of e h z) [
+  corners_of_face e h z c = elim (S.edge_of e h z) [
     | inl q ↦ subst (Corners P m) q c
     | inr r ↦ elim r [ inl q ↦ at_next (subst (Corners P m) q c) | inr q ↦ at_last (subst (Corners P m) q c) ]
   ]
@@ -43,7 +43,7 @@ module _ (P : ℕ → ℕ → ℕ → Type 0) (turned : (a b c : ℕ) → P a b 
 
   -- and the other way round
   pub corners_to_face : (e : ℕ) → e < m.half_edges → m.face e ≢ 0 → Corners P m e → Corners P m (m.edge (m.face e))
-  corners_to_face e h z c = elim (S.Edge_of e h z) [
+  corners_to_face e h z c = elim (S.edge_of e h z) [
     | inl q ↦ subst (Corners P m) (sym q) c
     | inr r ↦ elim r [
       | inl q ↦ subst (Corners P m) (sym q) (corners_next e h z c)

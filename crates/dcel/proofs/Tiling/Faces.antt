@@ -37,7 +37,7 @@ module _ (pos : ℕ → Point) {m : Map} (S : Sound m) (e : ℕ) (h : e < m.half
   second i = triangle_next S (m.next e) (S.next_in e h) (next_inner S e h z) pos (triangle_next S e h z pos i)
 
   pub face_of : InTriangleOf pos m s e p → InFace pos m s (m.face e) p
-  face_of i = elim (S.Edge_of e h z) [
+  face_of i = elim (S.edge_of e h z) [
     | inl q ↦ subst (λ (d : ℕ). InTriangleOf pos m s d p) (sym q) i
     | inr r ↦ elim r [
       | inl q ↦ subst (λ (d : ℕ). InTriangleOf pos m s d p) (sym q) (triangle_next S e h z pos i)

@@ -13,7 +13,7 @@ use Rattle.dcel.specs.Mesh.{Sound}
 use Rattle.dcel.specs.Memory.{cell, map_of}
 use Rattle.dcel.specs.Geometry.{Geometric}
 use Rattle.dcel.proofs.StrictlyBetween.{strictly_between←}
-use Rattle.dcel.proofs.Neighbours.{InTriangle as InTriangle_of, in_triangle}
+use Rattle.dcel.proofs.Neighbours.{InTriangle as InTriangleOf, in_triangle}
 use Rattle.dcel.proofs.Sites.{start, stop, third, face_left}
 use Rattle.delaunay.specs.Places.{place_of, from_of, to_of}
 use Rattle.delaunay.specs.Where.{Where, on_vertex, on_edge, in_face}
@@ -57,7 +57,7 @@ module _ (s : Size) (m : List ℕ) (S : Sound (map_of s m)) (G : Geometric (plac
   abbrev c : Site
   c = third G e
 
-  round : InTriangle_of (map_of s m) e
+  round : InTriangleOf (map_of s m) e
   round = in_triangle (map_of s m) S e h z
 
   abc : Left a b c

@@ -3,25 +3,25 @@ use Rattle.exact.specs.Plane.{every}
 use Rattle.triangles.specs.Entry.{CircleSays}
 use Rattle.triangles.proofs.in_circle.Goals as goal
 
-pub returns-in-default : goal.returns-in-default
+pub returns-in_default : goal.returns-in_default
 unfolding CircleSays every
-returns-in-default c = search rules
+returns-in_default c = search rules
 
-pub returns-in-default-small : goal.returns-in-default-small
+pub returns-in_default-small : goal.returns-in_default-small
 unfolding CircleSays every
-returns-in-default-small c = search rules
+returns-in_default-small c = search rules
 
-pub returns-in-default-small-2 : goal.returns-in-default-small-2
+pub returns-in_default-small-2 : goal.returns-in_default-small-2
 unfolding CircleSays every
-returns-in-default-small-2 c = search rules
+returns-in_default-small-2 c = search rules
 
-pub returns-in-default-small-3 : goal.returns-in-default-small-3
+pub returns-in_default-small-3 : goal.returns-in_default-small-3
 unfolding CircleSays every
-returns-in-default-small-3 c = search rules
+returns-in_default-small-3 c = search rules
 
-pub returns-in-default-side : goal.returns-in-default-side
+pub returns-in_default-side : goal.returns-in_default-side
 unfolding CircleSays every
-returns-in-default-side c = search rules
+returns-in_default-side c = search rules
 
 pub returns-in-Inside : goal.returns-in-Inside
 unfolding CircleSays every

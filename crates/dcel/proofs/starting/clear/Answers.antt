@@ -6,9 +6,9 @@ use Rattle.dcel.proofs.starting.clear.Goals as goal
 
 pub returns : goal.returns
 returns c =
-    let q : c.set-counts.new.memory ≡ cleared real c.args.memory.now = search rules in
+    let q : c.set_counts.new.memory ≡ cleared real c.args.memory.now = search rules in
     record {
       is = q;
       keeps = subst (Clears real c.args.memory.now) (sym q) (clear_clears real c.args.memory.now);
-      long = c.set-counts.ensures.long;
+      long = c.set_counts.ensures.long;
     }

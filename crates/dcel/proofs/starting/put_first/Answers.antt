@@ -6,9 +6,9 @@ use Rattle.dcel.proofs.starting.put_first.Goals as goal
 
 pub returns : goal.returns
 returns c =
-    let q : c.set-counts.new.memory ≡ first_put real c.args.memory.now c.args.x c.args.y c.args.data = search rules in
+    let q : c.set_counts.new.memory ≡ first_put real c.args.memory.now c.args.x c.args.y c.args.data = search rules in
     record {
       is = q;
       keeps = subst (PutsFirst real c.args.memory.now c.args.x c.args.y c.args.data) (sym q) (first_puts real c.args.memory.now c.args.x c.args.y c.args.data);
-      long = c.set-counts.ensures.long;
+      long = c.set_counts.ensures.long;
     }

@@ -16,6 +16,6 @@ pub returns-after-settling : goal.returns-after-settling
 unfolding legalized
 returns-after-settling c = search (rules, iterate_none)
 
-pub returns-in-default : goal.returns-in-default
+pub returns-in_default : goal.returns-in_default
 unfolding legalized
-returns-in-default c = search (rules, iterate_stop, popped_none, settle_none)
+returns-in_default c = search (rules, iterate_stop, popped_none, settle_none)

@@ -2,10 +2,10 @@ use Rattle.std.proofs.Common.{rules}
 use Rattle.delaunay.specs.Walk.{facing}
 use Rattle.delaunay.proofs.locate.face_to.Goals as goal
 
-pub returns-then-is-right : goal.returns-then-is-right
+pub returns-then-is_right : goal.returns-then-is_right
 unfolding facing
-returns-then-is-right c = search rules
+returns-then-is_right c = search rules
 
-pub returns-else-is-right : goal.returns-else-is-right
+pub returns-else-is_right : goal.returns-else-is_right
 unfolding facing
-returns-else-is-right c = search rules
+returns-else-is_right c = search rules

@@ -6,13 +6,13 @@ pub returns-then-passes : goal.returns-then-passes
 unfolding where_on_line
 returns-then-passes c = search rules
 
-pub returns-then-same-spot : goal.returns-then-same-spot
+pub returns-then-same_spot : goal.returns-then-same_spot
 unfolding where_on_line
-returns-then-same-spot c = search rules
+returns-then-same_spot c = search rules
 
-pub returns-then-same-spot-2 : goal.returns-then-same-spot-2
+pub returns-then-same_spot-2 : goal.returns-then-same_spot-2
 unfolding where_on_line
-returns-then-same-spot-2 c = search rules
+returns-then-same_spot-2 c = search rules
 
 pub returns : goal.returns
 unfolding where_on_line

@@ -6,9 +6,9 @@ pub returns-then-vertices-eq0 : goal.returns-then-vertices-eq0
 unfolding nearest_number nearest_left
 returns-then-vertices-eq0 c = search rules
 
-pub returns-then-half-edges-eq0 : goal.returns-then-half-edges-eq0
+pub returns-then-half_edges-eq0 : goal.returns-then-half_edges-eq0
 unfolding nearest_number nearest_left
-returns-then-half-edges-eq0 c = search rules
+returns-then-half_edges-eq0 c = search rules
 
 pub returns : goal.returns
 unfolding resumed nearest_edge nearest_number nearest_left

@@ -15,6 +15,6 @@ pub returns-after-closing : goal.returns-after-closing
 unfolding all_behind
 returns-after-closing c = search (rules, iterate_none)
 
-pub returns-in-default : goal.returns-in-default
+pub returns-in_default : goal.returns-in_default
 unfolding all_behind closed_behind
-returns-in-default c = search (rules, iterate_stop)
+returns-in_default c = search (rules, iterate_stop)

@@ -6,13 +6,13 @@ pub returns-then-face-eq0 : goal.returns-then-face-eq0
 unfolding crossed
 returns-then-face-eq0 c = search rules
 
-pub returns-then-is-right : goal.returns-then-is-right
+pub returns-then-is_right : goal.returns-then-is_right
 unfolding crossed
-returns-then-is-right c = search rules
+returns-then-is_right c = search rules
 
-pub returns-then-is-right-2 : goal.returns-then-is-right-2
+pub returns-then-is_right-2 : goal.returns-then-is_right-2
 unfolding crossed
-returns-then-is-right-2 c = search rules
+returns-then-is_right-2 c = search rules
 
 pub returns : goal.returns
 unfolding crossed

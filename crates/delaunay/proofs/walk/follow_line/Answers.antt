@@ -14,6 +14,6 @@ pub returns-after-following : goal.returns-after-following
 unfolding along_line
 returns-after-following c = search (rules, iterate_none)
 
-pub returns-in-default : goal.returns-in-default
+pub returns-in_default : goal.returns-in_default
 unfolding along_line
-returns-in-default c = search (rules, iterate_stop)
+returns-in_default c = search (rules, iterate_stop)

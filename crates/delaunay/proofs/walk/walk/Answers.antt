@@ -14,6 +14,6 @@ pub returns-after-walking : goal.returns-after-walking
 unfolding walked
 returns-after-walking c = search (rules, iterate_none)
 
-pub returns-in-default : goal.returns-in-default
+pub returns-in_default : goal.returns-in_default
 unfolding walked
-returns-in-default c = search (rules, iterate_stop)
+returns-in_default c = search (rules, iterate_stop)

@@ -3,8 +3,8 @@ use Rattle.exact.specs.Distance.{squared}
 use Rattle.exact.proofs.Vectors.{squares_fit}
 use Rattle.exact.proofs.plane.distance.Goals as goal
 
-pub overflow-add-result : goal.overflow-add-result
-overflow-add-result c = squares_fit c.abs-diff-across.result c.abs-diff-along.result (omega arith) (omega arith)
+pub overflow_add-result : goal.overflow_add-result
+overflow_add-result c = squares_fit c.abs_diff-across.result c.abs_diff-along.result (omega arith) (omega arith)
 
 pub returns : goal.returns
 unfolding squared

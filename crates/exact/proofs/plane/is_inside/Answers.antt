@@ -4,4 +4,4 @@ use Rattle.exact.proofs.Verdicts.{inside_told}
 use Rattle.exact.proofs.plane.is_inside.Goals as goal
 
 pub returns : goal.returns
-returns c = c.is-inside.ensures ∙ ap inside? c.circle.ensures ∙ inside_told _
+returns c = c.is_inside.ensures ∙ ap inside? c.circle.ensures ∙ inside_told _

@@ -10,9 +10,9 @@ pub returns-else-same-2 : goal.returns-else-same-2
 unfolding with_one
 returns-else-same-2 c = search rules
 
-pub returns-in-err-n : goal.returns-in-err-n
+pub returns-in_err-n : goal.returns-in_err-n
 unfolding with_one
-returns-in-err-n c = search rules
+returns-in_err-n c = search rules
 
 pub returns-then-same-3 : goal.returns-then-same-3
 unfolding with_one

@@ -2,13 +2,13 @@ use Rattle.std.proofs.Common.{rules}
 use Rattle.triangles.specs.Line.{with_two}
 use Rattle.triangles.proofs.line.with_two.Goals as goal
 
-pub returns-in-err-x : goal.returns-in-err-x
+pub returns-in_err-x : goal.returns-in_err-x
 unfolding with_two
-returns-in-err-x c = search rules
+returns-in_err-x c = search rules
 
-pub returns-in-err-y : goal.returns-in-err-y
+pub returns-in_err-y : goal.returns-in_err-y
 unfolding with_two
-returns-in-err-y c = search rules
+returns-in_err-y c = search rules
 
 pub returns-then-same : goal.returns-then-same
 unfolding with_two

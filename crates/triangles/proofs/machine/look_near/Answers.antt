@@ -3,9 +3,9 @@ use Rattle.std.proofs.lemmas.Bool.Decides.{nat_tests}
 use Rattle.triangles.specs.Machine.{look_near}
 use Rattle.triangles.proofs.machine.look_near.Goals as goal
 
-pub returns-in-default : goal.returns-in-default
+pub returns-in_default : goal.returns-in_default
 unfolding look_near
-returns-in-default c = search (rules, nat_tests)
+returns-in_default c = search (rules, nat_tests)
 
 pub returns-in-None : goal.returns-in-None
 unfolding look_near

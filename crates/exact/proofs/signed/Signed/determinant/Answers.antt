@@ -3,8 +3,8 @@ use Rattle.exact.specs.Signed.{integer}
 use Rattle.exact.proofs.Numbers.{passed_fits, determinant_is}
 use Rattle.exact.proofs.signed.Signed.determinant.Goals as goal
 
-pub overflow-sub-product : goal.overflow-sub-product
-overflow-sub-product c = search (rules, passed_fits)
+pub overflow_sub-product : goal.overflow_sub-product
+overflow_sub-product c = search (rules, passed_fits)
 
 pub returns : goal.returns
 returns c = record {
