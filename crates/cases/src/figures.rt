@@ -7,8 +7,6 @@ use std::alloc::{AllocError, Global};
 pub enum Figure {
     // Points of a grid of so many columns and rows; the bits of the case's number tell which.
     Part(u32),
-    // The same, moved away from the border of the plane, so that there are places on all sides.
-    Inset(u32),
     // Some points of a grid of 4 by 4 over the whole plane.
     Stretched,
     // Those, each moved a little, so that what was on a line or a circle is only nearly so.
@@ -22,9 +20,6 @@ pub enum Figure {
 
 // How far apart the points of a grid of 4 by 4 over the whole plane are: a third of 2^20 - 1.
 const STRETCH: u32 = 349525;
-
-// How far a grid is moved away from the border.
-const INSET: u32 = 2;
 
 // The circles stand round (CENTRE, CENTRE), so that no coordinate is below 0.
 const CENTRE: u32 = 20;
@@ -52,15 +47,14 @@ impl Figure {
         number: u64,
     ) -> Result<(), AllocError> {
         match self {
-            Figure::Part(side) => part(points, 0, side, number),
-            Figure::Inset(side) => part(points, INSET, side, number),
+            Figure::Part(side) => part(points, side, number),
             Figure::Stretched => {
-                part(points, 0, 4, random.bits())?;
+                part(points, 4, random.bits())?;
                 stretch(points);
                 Ok(())
             }
             Figure::Moved => {
-                part(points, 0, 4, random.bits())?;
+                part(points, 4, random.bits())?;
                 stretch(points);
                 jolt(points, random);
                 Ok(())
@@ -72,13 +66,11 @@ impl Figure {
     }
 }
 
-fn part(points: &mut Vec<Point>, start: u32, side: u32, bits: u64) -> Result<(), AllocError> {
+fn part(points: &mut Vec<Point>, side: u32, bits: u64) -> Result<(), AllocError> {
     let mut bits = bits;
-    for right in 0..side {
-        for up in 0..side {
+    for x in 0..side {
+        for y in 0..side {
             if bits % 2 == 1 {
-                let x = start.wrapping_add(right);
-                let y = start.wrapping_add(up);
                 points.push(Point { x, y })?;
             }
             bits /= 2;

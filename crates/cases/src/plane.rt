@@ -1,4 +1,4 @@
-// Points, on which side and in which circle they are, and how far apart, by plain numbers: written a second time, so that it can disagree with the machine.
+// Points, and on which side and in which circle they are, by plain numbers: written a second time, so that it can disagree with the machine.
 use std::fmt;
 
 #[derive(Clone, Copy, PartialEq, Eq)]
@@ -53,27 +53,7 @@ pub fn circle(t: Triangle, s: Point) -> i128 {
 }
 
 fn square(x: i128, y: i128) -> i128 {
-    dot(x, y, x, y)
-}
-
-fn dot(a: i128, b: i128, c: i128, d: i128) -> i128 {
-    a.wrapping_mul(c).wrapping_add(b.wrapping_mul(d))
-}
-
-// The square of the distance.
-pub fn distance(p: Point, q: Point) -> i128 {
-    square(minus(p.x, q.x), minus(p.y, q.y))
-}
-
-// Whether r is on the line between p and q, at neither of them.
-pub fn is_between(p: Point, q: Point, r: Point) -> bool {
-    let along = dot(
-        minus(p.x, r.x),
-        minus(p.y, r.y),
-        minus(q.x, r.x),
-        minus(q.y, r.y),
-    );
-    along < 0 && side(p, q, r) == 0
+    x.wrapping_mul(x).wrapping_add(y.wrapping_mul(y))
 }
 
 impl Triangle {
@@ -87,16 +67,6 @@ impl Triangle {
 
     pub fn has(self, p: Point) -> bool {
         p == self.a || p == self.b || p == self.c
-    }
-
-    // Whether a point is inside, and on no edge.
-    pub fn is_around(self, p: Point) -> bool {
-        side(self.a, self.b, p) > 0 && side(self.b, self.c, p) > 0 && side(self.c, self.a, p) > 0
-    }
-
-    // Whether a point is inside or on an edge.
-    pub fn covers(self, p: Point) -> bool {
-        side(self.a, self.b, p) >= 0 && side(self.b, self.c, p) >= 0 && side(self.c, self.a, p) >= 0
     }
 
     // Whether no corner is on the left of the line from p to q.

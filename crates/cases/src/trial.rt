@@ -1,80 +1,73 @@
-// One case: points go into the machine one by one, and what it shows then is judged.
-use crate::asked::Asked;
-use crate::fault::Fault;
+// One case: points go into the machine one by one, and after each all faces are judged.
 use crate::judge;
-use crate::machine::{clear, faces, insert, locate, nearest};
-use crate::plane::Point;
-use crate::random::Random;
-use crate::shown::Shown;
-use std::alloc::Global;
+use crate::machine::{Row, clear, faces, insert};
+use crate::plane::{Point, Triangle};
+use std::alloc::{AllocError, Global};
 
-pub fn run(
+// What goes wrong, if anything does.
+pub fn fault(
     memory: &mut [u64],
     heap: Global,
     points: &[Point],
-    asked: Asked,
-    random: &mut Random,
-) -> Result<(), Fault> {
+) -> Result<Option<&'static str>, AllocError> {
     if !clear(memory) {
-        return Err(Fault::That("it is not cleared"));
+        return Ok(Some("it is not cleared"));
     }
     let mut vertices = Vec::new(heap);
-    let places = asked.on_the_way(heap)?;
+    fault_on_the_way(memory, heap, points, &mut vertices)
+}
+
+fn fault_on_the_way(
+    memory: &mut [u64],
+    heap: Global,
+    points: &[Point],
+    vertices: &mut Vec<Point>,
+) -> Result<Option<&'static str>, AllocError> {
     for p in points {
-        put(memory, *p, &mut vertices)?;
-        let shown = Shown::read(memory, heap, &vertices)?;
-        if let Some(what) = judge::fault(&vertices, &shown.triangles) {
-            return Err(Fault::That(what));
+        let number = number_of(*p, vertices)?;
+        if insert(memory, *p) != Some(number) {
+            return Ok(Some("a point has another number"));
         }
-        ask(memory, &shown, &places)?;
+        if let Some(what) = fault_now(memory, heap, vertices)? {
+            return Ok(Some(what));
+        }
     }
-    let places = asked.in_the_end(heap, random, &vertices)?;
-    let shown = Shown::read(memory, heap, &vertices)?;
-    ask(memory, &shown, &places)?;
-    stays(memory, heap, &shown)
+    Ok(None)
 }
 
-// Puts a point in, and sees to its number: its old one, or the next.
-fn put(memory: &mut [u64], p: Point, vertices: &mut Vec<Point>) -> Result<(), Fault> {
-    let number = number_of(p, vertices);
-    if number == vertices.len() {
-        vertices.push(p)?;
-    }
-    if insert(memory, p) == Some(number as u64) {
-        Ok(())
-    } else {
-        Err(Fault::That("a point has another number"))
-    }
-}
-
-fn number_of(p: Point, vertices: &[Point]) -> usize {
+// The number that a point must be told: its old one, or the next.
+fn number_of(p: Point, vertices: &mut Vec<Point>) -> Result<u64, AllocError> {
     for (i, v) in vertices.iter().enumerate() {
         if *v == p {
-            return i;
+            return Ok(i as u64);
         }
     }
-    vertices.len()
+    let next = vertices.len() as u64;
+    vertices.push(p)?;
+    Ok(next)
 }
 
-// Asks at each of the places where it is and what is nearest.
-fn ask(memory: &mut [u64], shown: &Shown<'_>, places: &[Point]) -> Result<(), Fault> {
-    for p in places {
-        match locate(memory, *p) {
-            Some(spot) if shown.locates(*p, spot) => {}
-            _ => return Err(Fault::At("locate is wrong", *p)),
-        }
-        match nearest(memory, *p) {
-            Some(near) if shown.is_nearest(*p, near) => {}
-            _ => return Err(Fault::At("nearest is wrong", *p)),
-        }
+fn fault_now(
+    memory: &mut [u64],
+    heap: Global,
+    vertices: &[Point],
+) -> Result<Option<&'static str>, AllocError> {
+    let Some(rows) = faces(memory, heap)? else {
+        return Ok(Some("all faces does not show rows of three and end"));
+    };
+    let mut shown = Vec::new(heap);
+    for row in rows.iter() {
+        let Some(t) = triangle(*row, vertices) else {
+            return Ok(Some("a triangle has a corner that is no vertex"));
+        };
+        shown.push(t)?;
     }
-    Ok(())
+    Ok(judge::fault(vertices, &shown))
 }
 
-// That asking has changed nothing that is shown.
-fn stays(memory: &mut [u64], heap: Global, shown: &Shown<'_>) -> Result<(), Fault> {
-    match faces(memory, heap)? {
-        Some(rows) if rows == shown.rows => Ok(()),
-        _ => Err(Fault::That("after asking other faces are shown")),
-    }
+fn triangle(row: Row, vertices: &[Point]) -> Option<Triangle> {
+    let a = *vertices.get(row.0 as usize)?;
+    let b = *vertices.get(row.1 as usize)?;
+    let c = *vertices.get(row.2 as usize)?;
+    Some(Triangle { a, b, c })
 }

@@ -1,27 +1,50 @@
-// The points of a file, and their triangles: rows of vertex numbers, or a picture; or where a place lies among them.
+// The points of a file, and their triangles: rows of vertex numbers, or a picture.
 #![tactic(auto)]
 
 use crate::picture::draw;
-use crate::places::{look_up, tell};
 use crate::points::{faces, put_points};
-use crate::task::{Task, Wanted, asked};
 use std::io::{BufWriter, ErrorKind, Write};
-use std::{fs, io};
+use std::{env, fs, io};
 use triangles::MEMORY;
 
 mod picture;
-mod places;
 mod points;
-mod task;
+
+#[derive(Drop)]
+struct Task {
+    points: String,
+    // Where a picture is wanted.
+    picture: Option<String>,
+}
 
 fn main(rt: HostRuntime) -> io::Result<()> {
     match asked(&rt)? {
         Some(task) => survey(&rt, &task),
         None => {
-            eprintln!(rt; "usage: survey FILE [--svg OUT | --at X Y]")?;
+            eprintln!(rt; "usage: survey FILE [--svg OUT]")?;
             Err(io::Error::from(ErrorKind::InvalidInput))
         }
     }
+}
+
+// What the arguments ask for, if they are as they should be.
+fn asked(rt: &HostRuntime) -> io::Result<Option<Task>> {
+    let mut words = env::args(rt)?;
+    let _ = words.next();
+    let Some(points) = words.next() else {
+        return Ok(None);
+    };
+    let Some(option) = words.next() else {
+        return Ok(Some(Task {
+            points,
+            picture: None,
+        }));
+    };
+    let picture = words.next();
+    if option.as_str() != "--svg" || picture.is_none() || words.next().is_some() {
+        return Ok(None);
+    }
+    Ok(Some(Task { points, picture }))
 }
 
 fn survey(rt: &HostRuntime, task: &Task) -> io::Result<()> {
@@ -30,32 +53,20 @@ fn survey(rt: &HostRuntime, task: &Task) -> io::Result<()> {
     let points = task.points.as_str();
     let file = named(rt, points, fs::open(rt, points))?;
     named(rt, points, put_points(rt, file, &mut memory, &mut places))?;
-    let out = "standard output";
-    match &task.wanted {
-        Wanted::Rows => {
-            let faces = faces(rt.alloc(), &mut memory)?;
-            named(
-                rt,
-                out,
-                rows(BufWriter::new(rt.alloc(), rt.stdout())?, &faces),
-            )
-        }
-        Wanted::Picture(name) => {
-            let faces = faces(rt.alloc(), &mut memory)?;
+    let faces = faces(rt.alloc(), &mut memory)?;
+    match &task.picture {
+        None => named(
+            rt,
+            "standard output",
+            rows(BufWriter::new(rt.alloc(), rt.stdout())?, &faces),
+        ),
+        Some(name) => {
             let name = name.as_str();
             let file = named(rt, name, fs::create(rt, name))?;
             named(
                 rt,
                 name,
                 draw(BufWriter::new(rt.alloc(), file)?, &places, &faces),
-            )
-        }
-        Wanted::Lookup(place) => {
-            let found = look_up(rt, &mut memory, *place)?;
-            named(
-                rt,
-                out,
-                tell(BufWriter::new(rt.alloc(), rt.stdout())?, found),
             )
         }
     }

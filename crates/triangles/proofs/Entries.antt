@@ -13,23 +13,11 @@ pub one_set : (out : List ℕ) (a : ℕ) → 4 ≤ length out → set out 0 a �
 one_set [] a h = absurd (omega arith)
 one_set (x ∷ xs) a h = refl
 
-pub two_set : (out : List ℕ) (a b : ℕ) → 4 ≤ length out → set (set out 0 a) 1 b ≡ (a ∷ b ∷ []) ++ drop 2 out
-two_set [] a b h = absurd (omega arith)
-two_set (x ∷ []) a b h = absurd (omega arith)
-two_set (x ∷ y ∷ xs) a b h = refl
-
 pub three_set : (out : List ℕ) (a b c : ℕ) → 4 ≤ length out → set (set (set out 0 a) 1 b) 2 c ≡ (a ∷ b ∷ c ∷ []) ++ drop 3 out
 three_set [] a b c h = absurd (omega arith)
 three_set (x ∷ []) a b c h = absurd (omega arith)
 three_set (x ∷ y ∷ []) a b c h = absurd (omega arith)
 three_set (x ∷ y ∷ z ∷ xs) a b c h = refl
-
-pub four_set : (out : List ℕ) (a b c d : ℕ) → 4 ≤ length out → set (set (set (set out 0 a) 1 b) 2 c) 3 d ≡ (a ∷ b ∷ c ∷ d ∷ []) ++ drop 4 out
-four_set [] a b c d h = absurd (omega arith)
-four_set (x ∷ []) a b c d h = absurd (omega arith)
-four_set (x ∷ y ∷ []) a b c d h = absurd (omega arith)
-four_set (x ∷ y ∷ z ∷ []) a b c d h = absurd (omega arith)
-four_set (x ∷ y ∷ z ∷ w ∷ xs) a b c d h = refl
 
 -- ---- memories
 zeros_length : (n : ℕ) → length (zeros n) ≡ n

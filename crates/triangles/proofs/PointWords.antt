@@ -2,7 +2,7 @@
 use Rattle.std.proofs.Common.{◌≡◌, ℕ, ◌<◌, ◌⊎◌, List, [], ◌∷◌, length, get_or, Some, None, Option, sym, refl, ap, ◌∙◌, arith}
 use Rattle.exact.specs.Plane.{none_of}
 use Rattle.triangles.specs.declared.points.PointLine.{PointLine}
-use Rattle.triangles.specs.declared.points.PointLine.TheVariants.{Nothing, Point, NotAPoint}
+use Rattle.triangles.specs.declared.points.PointLine.TheVariants.{Nothing, NotAPoint}
 use Rattle.triangles.specs.Line.{words, number}
 use Rattle.triangles.specs.Word.{first, rest_after, up_to_empty, up_to_four}
 use Rattle.triangles.specs.PointLine.{if_number, of_numbers, point_of, point_by, point_line}

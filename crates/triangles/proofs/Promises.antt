@@ -5,11 +5,10 @@ pub mod Houses
 pub mod Grown
 pub mod Inserting
 pub mod Listing
-pub mod OneRow
 pub mod Placed
 pub mod Locating
 pub mod Nearing
 pub mod Clearing
-pub mod Commands
+pub mod Core
 pub mod Steadiness
 pub mod Whole

@@ -1,6 +1,6 @@
 -- What the entry that tells where a point lies to a small circle answers; and how a step of the whole machine is told to the world outside. Assumes nothing: these
 -- are definitions.
-use Rattle.std.specs.Prelude.{◌≡◌, ℕ, ◌+◌, ◌-◌, Bool, true, false, ◌&&◌, ltb, List, ◌++◌, length, drop, ◌==◌, nat_le, nat_lt}
+use Rattle.std.specs.Prelude.{◌≡◌, ℕ, Bool, true, false, ◌&&◌, ltb, List, ◌++◌, length, drop, ◌==◌, nat_le, nat_lt}
 use Rattle.exact.specs.Plane.{pick, every, Point, circle, above_0, below_0, left_of}
 use Rattle.triangles.specs.House.{insert, remove, locate, nearest, all_faces, around, hull, clear}
 use Rattle.triangles.specs.declared.Reply.{Reply}

@@ -171,16 +171,16 @@ small_command (around i) = nat_lt i 18446744073709551616
 small_command hull = true
 small_command clear = true
 
--- WHAT IS KNOWN NOW: points come, places are looked up, and all faces are shown. It is widened until everything is known.
-unfoldable pub known_now : Command → Bool
-known_now (insert a b d) = true
-known_now (remove i) = false
-known_now (locate a b) = true
-known_now (nearest a b) = true
-known_now all_faces = true
-known_now (around i) = false
-known_now hull = false
-known_now clear = true
+-- THE SMALL CORE: points come, and all faces are shown. The requests widen it, until everything is known.
+unfoldable pub core : Command → Bool
+core (insert a b d) = true
+core (remove i) = false
+core (locate a b) = false
+core (nearest a b) = false
+core all_faces = true
+core (around i) = false
+core hull = false
+core clear = true
 
 abbrev pub everything : Command → Bool
 everything c = true

@@ -1,15 +1,11 @@
 -- The machine at any size: its memory at the start, and one step.
 use Rattle.std.specs.Prelude.{ℕ, ◌+◌, Bool, ◌&&◌, List, [], ◌∷◌, replicate, Some, None, Option, ◌==◌, nat_lt}
-use Rattle.exact.specs.Plane.{pick, Tri, point}
-use Rattle.dcel.specs.Layout.{Size, header, edge_face, edge_origin, total}
-use Rattle.dcel.specs.Map.{twin}
+use Rattle.exact.specs.Plane.{pick, Tri}
+use Rattle.dcel.specs.Layout.{Size, header, total}
 use Rattle.dcel.specs.Memory.{cell, put, map_of, faces_in}
 use Rattle.dcel.specs.Geometry.{face_tri}
 use Rattle.dcel.specs.Start.{cleared}
 use Rattle.delaunay.specs.Insert.{inserted, inserted_number}
-use Rattle.delaunay.specs.Walk.{located}
-use Rattle.delaunay.specs.Where.{Where, on_vertex, on_edge, in_face, outside, beyond, no_edge}
-use Rattle.delaunay.specs.Nearest.{visited, nearest_number, nearest_left}
 use Rattle.triangles.specs.House.{Command, insert, remove, locate, nearest, all_faces, around, hull, clear}
 use Rattle.triangles.specs.Promise.{Event, said, next, Act, shows, done, refused, Step, Engine}
 
@@ -41,50 +37,23 @@ unfoldable pub next_face : Size → List ℕ → ℕ → Step
 next_face s m i =
     pick (nat_lt (i + 1) (faces_in s m)) (does (put s header (put s header m mode listing) cursor (i + 1)) (shows (row_of (face_tri (map_of s m) (i + 1))))) (does (at_end s m) done)
 
--- coordinates that a place can have
-abbrev pub in_square : Size → ℕ → ℕ → Bool
-in_square s a b = nat_lt a s.coordinates && nat_lt b s.coordinates
-
 -- a point is put in, its number is shown; 6 for coordinates that are too large, 7 if there is no room
 abbrev pub told_number : Size → List ℕ → Option ℕ → List ℕ → Step
 told_number s m None n = does m (refused 7)
 told_number s m (Some v) n = does (at_end s n) (shows (v ∷ []))
 
 abbrev pub small_enough : Size → ℕ → ℕ → ℕ → Bool
-small_enough s a b d = in_square s a b && nat_lt d 18446744073709551616
+small_enough s a b d = (nat_lt a s.coordinates && nat_lt b s.coordinates) && nat_lt d 18446744073709551616
 
 unfoldable pub put_in : Size → List ℕ → ℕ → ℕ → ℕ → Step
 put_in s m a b d = pick (small_enough s a b d) (told_number s m (inserted_number s m a b) (inserted s m a b d)) (does m (refused 6))
-
--- where a place is: 0 and a vertex; 1 and the ends of an edge; 2 and the corners of a face; 3 and the ends of an edge of the outside; 4 where there is none
-abbrev pub ends_of : Size → List ℕ → ℕ → List ℕ
-ends_of s m e = cell s edge_origin m e ∷ cell s edge_origin m (twin e) ∷ []
-
-abbrev pub place_row : Size → List ℕ → Where → List ℕ
-place_row s m (on_vertex v) = 0 ∷ v ∷ []
-place_row s m (on_edge e) = 1 ∷ ends_of s m e
-place_row s m (in_face e) = 2 ∷ row_of (face_tri (map_of s m) (cell s edge_face m e))
-place_row s m (outside e) = 3 ∷ ends_of s m e
-place_row s m (beyond e) = 3 ∷ ends_of s m e
-place_row s m no_edge = 4 ∷ []
-
-unfoldable pub look_up : Size → List ℕ → ℕ → ℕ → Step
-look_up s m a b = pick (in_square s a b) (does (at_end s (visited s m (point a b))) (shows (place_row s m (located s m (point a b))))) (does m (refused 6))
-
--- the number of a nearest vertex, or an empty row
-abbrev pub row_of_one : Option ℕ → List ℕ
-row_of_one None = []
-row_of_one (Some v) = v ∷ []
-
-unfoldable pub look_near : Size → List ℕ → ℕ → ℕ → Step
-look_near s m a b = pick (in_square s a b) (does (at_end s (nearest_left s m (point a b))) (shows (row_of_one (nearest_number s m (point a b))))) (does m (refused 6))
 
 -- what isn't known yet is refused with 2
 abbrev pub said_step : Size → List ℕ → Command → Step
 said_step s m (insert a b d) = put_in s m a b d
 said_step s m (remove i) = does m (refused 2)
-said_step s m (locate a b) = look_up s m a b
-said_step s m (nearest a b) = look_near s m a b
+said_step s m (locate a b) = does m (refused 2)
+said_step s m (nearest a b) = does m (refused 2)
 said_step s m all_faces = next_face s m 0
 said_step s m (around i) = does m (refused 2)
 said_step s m hull = does m (refused 2)

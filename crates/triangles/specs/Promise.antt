@@ -1,5 +1,5 @@
 -- The machine, and what it promises. Each promise is a statement, a type whose proof is owed. Assumes nothing.
-use Rattle.std.specs.Prelude.{◌≡◌, ℕ, zero, suc, ◌+◌, ◌-◌, ◌*◌, ◌<◌, ◌≤◌, Bool, true, false, not, ◌&&◌, ltb, List, [], ◌∷◌, ◌++◌, length, ◌==◌, nat_eq, nat_le, nat_lt}
+use Rattle.std.specs.Prelude.{◌≡◌, ℕ, zero, suc, ◌+◌, ◌*◌, ◌<◌, ◌≤◌, Bool, true, false, not, ◌&&◌, ltb, List, [], ◌∷◌, ◌++◌, length, ◌==◌, nat_eq, nat_le, nat_lt}
 use Rattle.exact.specs.Plane.{pick, or, every, any, those, Point, point, Vertex, vertex, spot, Tri, all_apart, on_a_line, Delaunay, Tiles, empty_circle, inside_circle, goes, joined, outer_edge, all_numbers, circle, above_0, below_0, square, minus, side, left_of, in_tri}
 use Rattle.triangles.specs.House.{House, house, Command, refusal, After, Shown, small_command, vertices_after, removed, found}
 

@@ -6,8 +6,7 @@ ghost use Rattle.exact.specs.Plane.{point};
 ghost use Rattle.triangles.specs.Entry.{CircleSays, circle_fits, StepSays, step_fits, smaller};
 ghost use Rattle.triangles.specs.Small.{SmallTold};
 
-use crate::machine::run;
-use crate::outcome::tell;
+use crate::machine::{run, tell};
 use exact::plane::{circle, side};
 use exact::position::Position;
 use exact::verdict::{Circle, Side};
@@ -15,7 +14,6 @@ use exact::verdict::{Circle, Side};
 pub mod examples;
 pub mod line;
 mod machine;
-mod outcome;
 pub mod points;
 pub mod request;
 pub mod theorems;

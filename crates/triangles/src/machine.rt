@@ -1,22 +1,26 @@
 // The machine: what it does when it is told something.
 ghost use Rattle.std.specs.Prelude.{◌≡◌, ◌≤◌, length};
-ghost use Rattle.exact.specs.Plane.{tri};
 ghost use Rattle.dcel.specs.Layout.{real, total};
-ghost use Rattle.triangles.specs.Entry.{event_of};
+ghost use Rattle.triangles.specs.Entry.{event_of, ActTold};
 ghost use Rattle.dcel.specs.Memory.{map_of};
 ghost use Rattle.dcel.specs.Geometry.{face_tri};
-ghost use Rattle.delaunay.specs.Where.{where_of};
 ghost use Rattle.triangles.specs.Promise.{shows};
-ghost use Rattle.triangles.specs.Machine.{machine_step, next_face as next-face-step, put_in, look_up, place_row, look_near, going_on};
+ghost use Rattle.triangles.specs.Machine.{machine_step, next_face as next-face-step, put_in, going_on, row_of};
 ghost use Rattle.triangles.specs.Outcome.{act_of};
 
-use crate::outcome::Outcome;
-use dcel::{FaceId, edge, face, faces, header, next, origin, prev, set_header, twin};
+use crate::Told;
+use dcel::{FaceId, edge, faces, header, next, origin, prev, set_header};
 use delaunay::insert::insert;
-use delaunay::locate::{locate, resume};
-use delaunay::location::Location;
-use delaunay::nearest::nearest;
 use exact::position::Position;
+
+// What a step comes to: a row of one number or of three, the end, or a refusal.
+#[derive(Clone, Copy)]
+pub enum Outcome {
+    One(u64),
+    Three(u64, u64, u64),
+    Done,
+    Refused(u64),
+}
 
 // The words of the header that have what the machine is at, and how many faces it has shown.
 const MODE: u64 = 5;
@@ -35,8 +39,6 @@ pub fn run(memory: &mut [u64], kind: u64, a: u64, b: u64, c: u64) -> Outcome
 {
     match kind {
         0 => put(memory, a, b, c),
-        2 => look_up(memory, a, b),
-        3 => look_near(memory, a, b),
         4 => next_face(memory, 0),
         7 => {
             dcel::clear(memory);
@@ -75,79 +77,27 @@ fn next_face(memory: &mut [u64], i: u64) -> Outcome
         set_header(memory, MODE, ENDING);
         return Outcome::Done;
     }
-    let (a, b, c) = corners(memory, FaceId(i + 1));
+    let shown = triangle(memory, FaceId(i + 1));
     set_header(memory, MODE, LISTING);
     set_header(memory, CURSOR, i + 1);
-    Outcome::Three(a, b, c)
+    shown
 }
 
 // The corners of a face, the smallest first.
-fn corners(memory: &[u64], f: FaceId) -> (u64, u64, u64)
+fn triangle(memory: &[u64], f: FaceId) -> Outcome
     requires { length memory.now ≡ total real }
-    ensures { tri result.0 result.1 result.2 ≡ face_tri (map_of real memory.now) f.0 }
+    ensures { act_of result ≡ shows (row_of (face_tri (map_of real memory.now) f.0)) }
 {
     let e = edge(memory, f);
     let a = origin(memory, e).0;
     let b = origin(memory, next(memory, e)).0;
     let c = origin(memory, prev(memory, e)).0;
     if a < b && a < c {
-        (a, b, c)
+        Outcome::Three(a, b, c)
     } else if b < c && b < a {
-        (b, c, a)
+        Outcome::Three(b, c, a)
     } else {
-        (c, a, b)
-    }
-}
-
-// Tells where a place is.
-fn look_up(memory: &mut [u64], a: u64, b: u64) -> Outcome
-    requires { length memory.old ≡ total real }
-    ensures memory { memory.new ≡ (look_up real memory.old a b).memory }
-    ensures act { act_of result ≡ (look_up real memory.old a b).act }
-{
-    let Some(p) = Position::new(a, b) else {
-        return Outcome::Refused(6);
-    };
-    let place = locate(memory, p);
-    let shown = row(memory, place);
-    resume(memory, place);
-    set_header(memory, MODE, ENDING);
-    shown
-}
-
-// The row by which a place is told.
-fn row(memory: &[u64], place: Location) -> Outcome
-    requires { length memory.now ≡ total real }
-    ensures { act_of result ≡ shows (place_row real memory.now (where_of place)) }
-{
-    match place {
-        Location::OnVertex(v) => Outcome::Two(0, v.0),
-        Location::OnEdge(e) => { Outcome::Three(1, origin(memory, e).0, origin(memory, twin(e)).0) }
-        Location::InFace(e) => {
-            let (a, b, c) = corners(memory, face(memory, e));
-            Outcome::Four(2, a, b, c)
-        }
-        Location::Outside(e) | Location::Beyond(e) => {
-            Outcome::Three(3, origin(memory, e).0, origin(memory, twin(e)).0)
-        }
-        Location::NoEdge => Outcome::One(4),
-    }
-}
-
-// Tells a nearest vertex.
-fn look_near(memory: &mut [u64], a: u64, b: u64) -> Outcome
-    requires { length memory.old ≡ total real }
-    ensures memory { memory.new ≡ (look_near real memory.old a b).memory }
-    ensures act { act_of result ≡ (look_near real memory.old a b).act }
-{
-    let Some(p) = Position::new(a, b) else {
-        return Outcome::Refused(6);
-    };
-    let found = nearest(memory, p);
-    set_header(memory, MODE, ENDING);
-    match found {
-        None => Outcome::Empty,
-        Some(v) => Outcome::One(v.0),
+        Outcome::Three(c, a, b)
     }
 }
 
@@ -161,5 +111,26 @@ fn go_on(memory: &mut [u64]) -> Outcome
         next_face(memory, shown)
     } else {
         Outcome::Done
+    }
+}
+
+// Shows the numbers of an outcome.
+pub fn tell(outcome: Outcome, out: &mut [u64]) -> Told
+    requires { 4 ≤ length out.old }
+    ensures { ActTold (act_of outcome) result out.old out.new }
+{
+    match outcome {
+        Outcome::One(a) => {
+            out[0] = a;
+            Told::Shows(1)
+        }
+        Outcome::Three(a, b, c) => {
+            out[0] = a;
+            out[1] = b;
+            out[2] = c;
+            Told::Shows(3)
+        }
+        Outcome::Done => Told::Done,
+        Outcome::Refused(k) => Told::No(k),
     }
 }

@@ -1,11 +1,11 @@
 // What is shown of the definitions alone: each function's contract is a theorem.
 ghost use Rattle.triangles.specs.Entry.{own};
-ghost use Rattle.triangles.specs.House.{known_now};
+ghost use Rattle.triangles.specs.House.{core};
 ghost use Rattle.triangles.specs.Promise.{Whole, ThereIs, OnlyOne, AllUsed, LocalSuffices, NearestJoined, NoneNearer, Turns, OneDiagonal, StayApart, ComeAndGone};
 
-// The machine is steady, and every list of commands is answered rightly from the start on: insert, locate, nearest, all faces and clear as defined, what isn't known with 2.
-pub fn whole_known_now() -> u8
-    ensures { Whole known_now own }
+// The machine is steady, and every list of commands is answered rightly from the start on: insert, all faces and clear as defined, what isn't known with 2.
+pub fn whole_core() -> u8
+    ensures { Whole core own }
 {
     0
 }

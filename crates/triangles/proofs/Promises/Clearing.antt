@@ -12,7 +12,7 @@ use Rattle.dcel.proofs.FirstVertices.{clear_clears}
 use Rattle.delaunay.specs.Worklist.{list_head}
 use Rattle.delaunay.proofs.AtRest.{standing_delaunay}
 use Rattle.delaunay.specs.Kept.{vertices_of, Lists, Standing}
-use Rattle.triangles.specs.House.{house, clear, refusal, vertices_after, changes, After, Shown, known_now}
+use Rattle.triangles.specs.House.{house, clear, refusal, vertices_after, changes, After, Shown, core}
 use Rattle.triangles.specs.Promise.{said, ran}
 use Rattle.triangles.specs.Machine.{at_end, zeros, machine_step, machine}
 use Rattle.triangles.proofs.Promises.Modes.{end_alike, standing_long, standing_lists}
@@ -48,7 +48,7 @@ module _ (s : Size) (p : 0 < s.vertices) (m : List ℕ) (t : Standing s m) where
   cleared_standing = inl (begins.bare, lists_kept)
 
   pub clear_answered : Answered s m (house_of s m) clear
-  unfolding machine machine_step known_now refusal After vertices_after changes Shown
+  unfolding machine machine_step core refusal After vertices_after changes Shown
   clear_answered =
       answered s m (house_of s m) clear 1 (house_of s n) (ran (at_end s n) [] 0) (runs_done (machine s) m (said clear) [] 0 (at_end s n) refl)
       (goes_well (house_of s m) clear (at_end s n) (house_of s n) [] refl refl (no_vertices s n begins.bare, λ e. absurd (true≢false e), λ e. standing_delaunay s n cleared_standing) refl)

@@ -5,7 +5,7 @@ use Rattle.dcel.specs.Layout.{Size}
 use Rattle.dcel.specs.Memory.{map_of}
 use Rattle.dcel.specs.Geometry.{triangles}
 use Rattle.delaunay.specs.Kept.{vertices_of, Standing}
-use Rattle.triangles.specs.House.{House, house, Command, refusal, After, Shown, known_now}
+use Rattle.triangles.specs.House.{House, house, Command, refusal, After, Shown, core}
 use Rattle.triangles.specs.Promise.{said, Ran, ran, runs}
 use Rattle.triangles.specs.Machine.{machine}
 use Rattle.triangles.proofs.Promises.Modes.{Alike, map_alike, vertices_alike, standing_alike}
@@ -29,19 +29,19 @@ stands_alike a t = record { standing = standing_alike a t; house_is = sym (house
 -- how a command is to go, with what it leaves
 abbrev pub Goes : House → Command → House → Ran → Type 0
 Goes h c h₁ r =
-    (known_now c ≡ false → (r.end ≡ 2) × (r.showed ≡ []) × (h₁ ≡ h))
-    × (known_now c ≡ true → 0 < refusal h c → (r.end ≡ refusal h c) × (r.showed ≡ []) × (h₁ ≡ h))
-    × (known_now c ≡ true → refusal h c ≡ 0 → (r.end ≡ 0) × After h c h₁ × Shown h c h₁ r.showed)
+    (core c ≡ false → (r.end ≡ 2) × (r.showed ≡ []) × (h₁ ≡ h))
+    × (core c ≡ true → 0 < refusal h c → (r.end ≡ refusal h c) × (r.showed ≡ []) × (h₁ ≡ h))
+    × (core c ≡ true → refusal h c ≡ 0 → (r.end ≡ 0) × After h c h₁ × Shown h c h₁ r.showed)
 
 module _ (h : House) (c : Command) (m : List ℕ) where
-  pub goes_unknown : known_now c ≡ false → Goes h c h (ran m [] 2)
-  goes_unknown u = (λ e. (refl, refl, refl), λ e. absurd (true_false (known_now c) e u), λ e. absurd (true_false (known_now c) e u))
+  pub goes_unknown : core c ≡ false → Goes h c h (ran m [] 2)
+  goes_unknown u = (λ e. (refl, refl, refl), λ e. absurd (true_false (core c) e u), λ e. absurd (true_false (core c) e u))
 
-  pub goes_refused : (k : ℕ) → known_now c ≡ true → refusal h c ≡ k → 0 < k → Goes h c h (ran m [] k)
-  goes_refused k u q p = (λ e. absurd (true_false (known_now c) u e), λ e z. (sym q, refl, refl), λ e z. absurd (omega arith))
+  pub goes_refused : (k : ℕ) → core c ≡ true → refusal h c ≡ k → 0 < k → Goes h c h (ran m [] k)
+  goes_refused k u q p = (λ e. absurd (true_false (core c) u e), λ e z. (sym q, refl, refl), λ e z. absurd (omega arith))
 
-  pub goes_well : (h₁ : House) (ss : List (List ℕ)) → known_now c ≡ true → refusal h c ≡ 0 → After h c h₁ → Shown h c h₁ ss → Goes h c h₁ (ran m ss 0)
-  goes_well h₁ ss u q a b = (λ e. absurd (true_false (known_now c) u e), λ e z. absurd (omega arith), λ e z. (refl, a, b))
+  pub goes_well : (h₁ : House) (ss : List (List ℕ)) → core c ≡ true → refusal h c ≡ 0 → After h c h₁ → Shown h c h₁ ss → Goes h c h₁ (ran m ss 0)
+  goes_well h₁ ss u q a b = (λ e. absurd (true_false (core c) u e), λ e z. absurd (omega arith), λ e z. (refl, a, b))
 
 pub record Answered (s : Size) (m : List ℕ) (h : House) (c : Command) : Type 0 where
   pub fuel : ℕ

@@ -8,9 +8,9 @@ use Rattle.dcel.specs.Geometry.{triangles}
 use Rattle.dcel.proofs.Becoming.{at_most_below}
 use Rattle.delaunay.specs.Insert.{inserted as put_into, inserted_number}
 use Rattle.delaunay.specs.Kept.{vertices_of, Standing}
-use Rattle.triangles.specs.House.{House, insert, found, inserted, refusal, vertices_after, changes, After, Shown, known_now}
+use Rattle.triangles.specs.House.{House, insert, found, inserted, refusal, vertices_after, changes, After, Shown, core}
 use Rattle.triangles.specs.Promise.{said, next, shows, refused, ran, runs}
-use Rattle.triangles.specs.Machine.{does, at_end, in_square, put_in, machine_step, machine}
+use Rattle.triangles.specs.Machine.{does, at_end, put_in, machine_step, machine}
 use Rattle.triangles.proofs.Promises.Modes.{end_alike, ended, standing_long}
 use Rattle.triangles.proofs.Promises.Running.{runs_refused, runs_done, runs_shows}
 use Rattle.triangles.proofs.Promises.Numbered.{found_alone}
@@ -21,11 +21,14 @@ use Rattle.triangles.proofs.Promises.Grown.{Here, here, nowhere, vertices_renewe
 use Rattle.triangles.proofs.Promises.Houses.{house_of, stands_itself, stands_alike, goes_refused, goes_well, Answered, answered}
 
 module _ (s : Size) (m : List ℕ) (a b d : ℕ) where
-  put_too_far : in_square s a b ≡ false → put_in s m a b d ≡ does m (refused 6)
+  abbrev in_square : Bool
+  in_square = ltb a s.coordinates && ltb b s.coordinates
+
+  put_too_far : in_square ≡ false → put_in s m a b d ≡ does m (refused 6)
   unfolding put_in
   put_too_far q = rw q refl
 
-  module _ (q : in_square s a b ≡ true) (e : ltb d 18446744073709551616 ≡ true) where
+  module _ (q : in_square ≡ true) (e : ltb d 18446744073709551616 ≡ true) where
     put_full : inserted_number s m a b ≡ None → put_in s m a b d ≡ does m (refused 7)
     unfolding put_in
     put_full n = rw (q, e, n) refl
@@ -49,16 +52,16 @@ module _ (s : Size) (c_is : s.coordinates ≡ 1048576) (v_is : s.vertices ≡ 16
   abbrev n : List ℕ
   n = put_into s m a b d
 
-  refusal_is : refusal h (insert a b d) ≡ pick (in_square s a b) (pick (none_of (found (vertices_of s m) (point a b)) && leb s.vertices (length (vertices_of s m))) 7 0) 6
+  refusal_is : refusal h (insert a b d) ≡ pick (in_square s m a b d) (pick (none_of (found (vertices_of s m) (point a b)) && leb s.vertices (length (vertices_of s m))) 7 0) 6
   unfolding refusal
   refusal_is = ap₂ (λ (c v : ℕ). pick (ltb a c && ltb b c) (pick (none_of (found (vertices_of s m) (point a b)) && leb v (length (vertices_of s m))) 7 0) 6) (sym c_is) (sym v_is)
 
-  too_far : in_square s a b ≡ false → Answered s m h (insert a b d)
-  unfolding machine machine_step known_now
+  too_far : in_square s m a b d ≡ false → Answered s m h (insert a b d)
+  unfolding machine machine_step core
   too_far q = answered s m h (insert a b d) 1 h (ran m [] 6) (runs_refused (machine s) m (said (insert a b d)) [] 0 m 6 (put_too_far s m a b d q) (omega arith) (omega arith))
       (goes_refused h (insert a b d) m 6 refl (refusal_is ∙ rw q refl) (omega arith)) (stands_itself s m t)
 
-  module _ (q : in_square s a b ≡ true) where
+  module _ (q : in_square s m a b d ≡ true) where
     abbrev a_in : a < s.coordinates
     a_in = ltb→ a s.coordinates (and_left (ltb a s.coordinates) (ltb b s.coordinates) q)
 
@@ -70,7 +73,7 @@ module _ (s : Size) (c_is : s.coordinates ≡ 1048576) (v_is : s.vertices ≡ 16
 
     -- where a vertex is, its number is shown and only its data are others
     there_already : (v : ℕ) → found (vertices_of s m) (point a b) ≡ v ∷ [] → Answered s m h (insert a b d)
-    unfolding known_now none_of After vertices_after changes Shown inserted
+    unfolding core none_of After vertices_after changes Shown inserted
     there_already v f =
         let p : Here s m a b v = here s m a b v [] f in
         let l = law.old v p.in_range p.place_is in
@@ -85,7 +88,7 @@ module _ (s : Size) (c_is : s.coordinates ≡ 1048576) (v_is : s.vertices ≡ 16
     -- where none is
     module _ (f : found (vertices_of s m) (point a b) ≡ []) where
       no_room : leb s.vertices (length (vertices_of s m)) ≡ true → Answered s m h (insert a b d)
-      unfolding machine machine_step known_now none_of
+      unfolding machine machine_step core none_of
       no_room l =
           let full : vertices_in s m ≡ s.vertices = omega (arith, leb→ s.vertices (length (vertices_of s m)) l, vertices_length s m, at_most_below s.vertices (cell s header m vertex_count)) in
           answered s m h (insert a b d) 1 h (ran m [] 7)
@@ -93,7 +96,7 @@ module _ (s : Size) (c_is : s.coordinates ≡ 1048576) (v_is : s.vertices ≡ 16
           (goes_refused h (insert a b d) m 7 refl (refusal_is ∙ rw (q, f, l) refl) (omega arith)) (stands_itself s m t)
 
       one_more : leb s.vertices (length (vertices_of s m)) ≡ false → Answered s m h (insert a b d)
-      unfolding known_now none_of After vertices_after changes Shown inserted
+      unfolding core none_of After vertices_after changes Shown inserted
       one_more l =
           let room : vertices_in s m < s.vertices = omega (arith, leb_false→ s.vertices (length (vertices_of s m)) l, vertices_length s m) in
           let i = law.new (nowhere s m a b f) room in
@@ -110,4 +113,4 @@ module _ (s : Size) (c_is : s.coordinates ≡ 1048576) (v_is : s.vertices ≡ 16
     by_number (v ∷ is) f = there_already v (f ∙ ap (λ (l : List ℕ). v ∷ l) (found_alone 0 (vertices_of s m) (point a b) v is f))
 
   pub insert_answered : Answered s m h (insert a b d)
-  insert_answered = elim (either (in_square s a b)) [ inl q ↦ by_number q (found (vertices_of s m) (point a b)) refl | inr q ↦ too_far q ]
+  insert_answered = elim (either (in_square s m a b d)) [ inl q ↦ by_number q (found (vertices_of s m) (point a b)) refl | inr q ↦ too_far q ]

@@ -9,7 +9,7 @@ use Rattle.dcel.specs.Memory.{cell, put, map_of, faces_in}
 use Rattle.dcel.specs.Geometry.{face_tri, triangles}
 use Rattle.dcel.proofs.Cells.{cell_same, length_put}
 use Rattle.delaunay.specs.Kept.{Standing}
-use Rattle.triangles.specs.House.{all_faces, rows_of, refusal, vertices_after, changes, After, Shown, known_now}
+use Rattle.triangles.specs.House.{all_faces, rows_of, refusal, vertices_after, changes, After, Shown, core}
 use Rattle.triangles.specs.Promise.{Event, said, next, shows, done, ran, runs}
 use Rattle.triangles.specs.Machine.{mode, cursor, listing, does, at_end, row_of, next_face, going_on, machine_step, machine}
 use Rattle.exact.proofs.Enumerations.{each_first}
@@ -125,7 +125,7 @@ module _ (s : Size) (m : List ℕ) (t : Standing s m) where
       }
 
   pub faces_answered : Answered s m (house_of s m) all_faces
-  unfolding known_now refusal After vertices_after changes Shown
+  unfolding core refusal After vertices_after changes Shown
   faces_answered =
       let r = all_shown in
       answered s m (house_of s m) all_faces r.fuel (house_of s m) (ran r.memory (rows_of (triangles (map_of s m))) 0) r.runs_so

@@ -1,7 +1,6 @@
--- A place is looked up: refused if a coordinate is too large, and otherwise what is there is shown, and the next walk starts there.
-use Rattle.std.proofs.Common.{◌≡◌, ℕ, ◌<◌, ◌≤◌, Bool, true, false, ◌&&◌, eqb, ltb, List, [], ◌∷◌, length, sym, refl, ap, ◌∙◌, subst, inl, inr, arith}
-use mathlib.Core.Bool.{false≢true}
-use Rattle.exact.specs.Plane.{pick, Point, point, same_spot}
+-- A place is looked up: its row tells what is there, and memory that lets the next walk start there stands for the same.
+use Rattle.std.proofs.Common.{◌≡◌, ℕ, ◌<◌, ◌≤◌, Bool, true, false, ◌&&◌, eqb, List, length, sym, refl, ap, ◌∙◌, subst, inl, inr, arith}
+use Rattle.exact.specs.Plane.{Point, point, same_spot}
 use Rattle.exact.proofs.Booleans.{true_false, eqb→, eqb←, eqb_same, and_left, and_right, and←}
 use Rattle.dcel.specs.Layout.{Size, header}
 use Rattle.dcel.specs.Memory.{cell, half_edges_in, vertices_in}
@@ -16,13 +15,12 @@ use Rattle.delaunay.proofs.PointLocation.Tests.{picked}
 use Rattle.delaunay.proofs.PointLocation.Located.{located_right}
 use Rattle.delaunay.proofs.NearestVertex.Resuming.{resume_in}
 use Rattle.delaunay.proofs.Inserting.Told.{NoneAt}
-use Rattle.triangles.specs.House.{locate, refusal, vertices_after, changes, After, Shown, Located, known_now}
-use Rattle.triangles.specs.Machine.{in_square, place_row, look_up, machine_step, machine}
+use Rattle.triangles.specs.House.{Located}
+use Rattle.triangles.specs.Rows.{place_row}
 use Rattle.triangles.proofs.Apart.{same_place}
 use Rattle.triangles.proofs.Promises.Modes.{Alike, resumed_alike, standing_long}
-use Rattle.triangles.proofs.Promises.OneRow.{row_answered}
 use Rattle.triangles.proofs.Promises.Placed.{placed, none_found, one_found}
-use Rattle.triangles.proofs.Promises.Houses.{house_of, Answered}
+use Rattle.triangles.proofs.Promises.Houses.{house_of}
 
 -- ---- with one vertex at most
 module _ (s : Size) (m : List ℕ) (x y : ℕ) where
@@ -70,26 +68,14 @@ module _ (s : Size) (m : List ℕ) (x y : ℕ) where
   resume_below (inr (inl b)) h = absurd (omega (arith, b.0.half_edges_are))
   resume_below (inr (inr t)) h = resume_in s m t (point x y) (located s m (point x y)) (located_right s m t x y)
 
-  visited_alike : Standing s m → Alike s m (visited s m (point x y))
+  pub visited_alike : Standing s m → Alike s m (visited s m (point x y))
   unfolding visited
   visited_alike t = resumed_alike s m (resume_at s m (located s m (point x y))) (omega (arith, standing_long s m t)) (resume_below t)
 
-short_row : (s : Size) (m : List ℕ) (w : Where) → length (place_row s m w) ≤ 4
+pub short_row : (s : Size) (m : List ℕ) (w : Where) → length (place_row s m w) ≤ 4
 short_row s m (on_vertex v) = omega arith
 short_row s m (on_edge e) = omega arith
 short_row s m (in_face e) = omega arith
 short_row s m (outside e) = omega arith
 short_row s m (beyond e) = omega arith
 short_row s m no_edge = omega arith
-
-module _ (s : Size) (c_is : s.coordinates ≡ 1048576) (m : List ℕ) (t : Standing s m) (a b : ℕ) where
-  refusal_is : refusal (house_of s m) (locate a b) ≡ pick (in_square s a b) 0 6
-  unfolding refusal
-  refusal_is = ap (λ (c : ℕ). pick (ltb a c && ltb b c) 0 6) (sym c_is)
-
-  pub locate_answered : Answered s m (house_of s m) (locate a b)
-  unfolding machine machine_step known_now look_up After vertices_after changes Shown
-  locate_answered =
-      let r = place_row s m (located s m (point a b)) in
-      row_answered s m t (locate a b) refl (in_square s a b) (visited s m (point a b)) r refl refusal_is (short_row s m (located s m (point a b))) (λ q.
-      record { alike = visited_alike s m a b t; after = (refl, λ e. refl, λ e. absurd (false≢true e)); shown = (r, told_right s m a b t, refl) })

@@ -1,16 +1,15 @@
--- A nearest vertex is looked for: refused if a coordinate is too large, and otherwise its number is shown, or an empty row if there is no vertex.
-use Rattle.std.proofs.Common.{◌≡◌, ℕ, ◌<◌, ◌≤◌, true, false, not, ◌&&◌, ltb, List, [], ◌∷◌, length, Some, None, Option, sym, refl, ap, ◌∙◌, subst, ap₂, inl, inr, arith}
-use mathlib.Core.Bool.{false≢true}
-use Rattle.exact.specs.Plane.{or, every, Point, point, Vertex, spot, Tri, pick, joined, square, minus, above_0, all_numbers}
+-- A nearest vertex is looked for: the row is its number, or empty if there is no vertex, and memory afterwards stands for the same.
+use Rattle.std.proofs.Common.{◌≡◌, ℕ, ◌<◌, ◌≤◌, true, not, List, [], ◌∷◌, length, Some, None, Option, sym, refl, ap, ◌∙◌, subst, ap₂, inl, inr, arith}
+use Rattle.exact.specs.Plane.{or, Point, point, Vertex, spot, Tri, joined, square, minus, above_0, all_numbers}
 use Rattle.exact.specs.Distance.{squared}
-use Rattle.exact.proofs.Booleans.{either, and_left, and_right, ltb→, or_left, or_right, not←}
+use Rattle.exact.proofs.Booleans.{either, or_left, or_right, not←}
 use Rattle.exact.proofs.Lists.{every←, up_to→}
 use Rattle.exact.proofs.Vertices.{vertex_number}
 use Rattle.exact.proofs.Geometry.Words.{Site}
 use Rattle.exact.proofs.Geometry.Squared.{no_farther←, squared_swap}
 use Rattle.exact.proofs.Statements.NoneNearer.{none_nearer}
 use Rattle.dcel.specs.Layout.{Size}
-use Rattle.dcel.specs.Map.{Map, twin}
+use Rattle.dcel.specs.Map.{Map}
 use Rattle.dcel.specs.Mesh.{Sound}
 use Rattle.dcel.specs.Memory.{map_of, vertices_in, half_edges_in}
 use Rattle.dcel.specs.Geometry.{triangles}
@@ -21,12 +20,11 @@ use Rattle.delaunay.specs.Nearest.{nearest_edge, nearest_number, nearest_left}
 use Rattle.delaunay.specs.Kept.{vertices_of, Triangulated, Standing}
 use Rattle.delaunay.proofs.AtRest.{vertices_length, spot_of, spots_geometric, standing_delaunay, standing_plain}
 use Rattle.delaunay.proofs.NearestVertex.Found.{nearest_right, nearest_number_is, nearest_left_is, nearest_left_alone, nearest_number_none, nearest_number_alone}
-use Rattle.triangles.specs.House.{nearest, refusal, vertices_after, changes, After, Shown, Nearest, known_now}
-use Rattle.triangles.specs.Machine.{in_square, row_of_one, look_near, machine_step, machine}
+use Rattle.triangles.specs.House.{Nearest}
+use Rattle.triangles.specs.Rows.{row_of_one}
 use Rattle.triangles.proofs.Promises.Modes.{Alike, alike_itself, resumed_alike}
-use Rattle.triangles.proofs.Promises.OneRow.{row_answered}
 use Rattle.triangles.proofs.Promises.Clearing.{no_vertices}
-use Rattle.triangles.proofs.Promises.Houses.{house_of, Answered}
+use Rattle.triangles.proofs.Promises.Houses.{house_of}
 
 module _ (s : Size) (m : List ℕ) (x y : ℕ) where
   abbrev p : Site
@@ -99,32 +97,18 @@ module _ (s : Size) (m : List ℕ) (x y : ℕ) where
   abbrev Told : Option ℕ → Type 0
   Told o = Nearest (house_of s m) (point x y) (row_of_one o)
 
-  told_nearest : Standing s m → x < s.coordinates → y < s.coordinates → Told (nearest_number s m (point x y))
+  pub told_nearest : Standing s m → x < s.coordinates → y < s.coordinates → Told (nearest_number s m (point x y))
   unfolding Nearest
   told_nearest (inl b) hx hy = subst Told (sym (nearest_number_none s m (point x y) b.0.half_edges_are b.0.vertices_are)) (no_vertices s m b.0)
   told_nearest (inr (inl b)) hx hy = subst Told (sym (nearest_number_alone s m (point x y) b.0.half_edges_are (λ z. omega (arith, b.0.vertices_are)))) (only_one b.0)
   told_nearest (inr (inr T)) hx hy = subst Told (sym (nearest_number_is s m (point x y) (λ z. omega (arith, T.last_in)))) (found_nearest T hx hy)
 
-  left_alike : Standing s m → x < s.coordinates → y < s.coordinates → Alike s m (nearest_left s m (point x y))
+  pub left_alike : Standing s m → x < s.coordinates → y < s.coordinates → Alike s m (nearest_left s m (point x y))
   left_alike (inl b) hx hy = rw (nearest_left_alone s m (point x y) b.0.half_edges_are) (alike_itself s m)
   left_alike (inr (inl b)) hx hy = rw (nearest_left_alone s m (point x y) b.0.half_edges_are) (alike_itself s m)
   left_alike (inr (inr T)) hx hy =
       rw (nearest_left_is s m (point x y) (λ z. omega (arith, T.last_in))) (resumed_alike s m (nearest_edge s m (point x y)) (omega (arith, T.settled.held.holds.long)) (λ h. (nearest_right s m T x y hx hy).0))
 
-short_row : (o : Option ℕ) → length (row_of_one o) ≤ 4
+pub short_row : (o : Option ℕ) → length (row_of_one o) ≤ 4
 short_row None = omega arith
 short_row (Some v) = omega arith
-
-module _ (s : Size) (c_is : s.coordinates ≡ 1048576) (m : List ℕ) (t : Standing s m) (a b : ℕ) where
-  refusal_is : refusal (house_of s m) (nearest a b) ≡ pick (in_square s a b) 0 6
-  unfolding refusal
-  refusal_is = ap (λ (c : ℕ). pick (ltb a c && ltb b c) 0 6) (sym c_is)
-
-  pub nearest_answered : Answered s m (house_of s m) (nearest a b)
-  unfolding machine machine_step known_now look_near After vertices_after changes Shown
-  nearest_answered =
-      let r = row_of_one (nearest_number s m (point a b)) in
-      row_answered s m t (nearest a b) refl (in_square s a b) (nearest_left s m (point a b)) r refl refusal_is (short_row (nearest_number s m (point a b))) (λ q.
-      let la = ltb→ a s.coordinates (and_left (ltb a s.coordinates) (ltb b s.coordinates) q) in
-      let lb = ltb→ b s.coordinates (and_right (ltb a s.coordinates) (ltb b s.coordinates) q) in
-      record { alike = left_alike s m a b t la lb; after = (refl, λ e. refl, λ e. absurd (false≢true e)); shown = (r, told_nearest s m a b t la lb, refl) })

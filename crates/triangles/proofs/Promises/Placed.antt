@@ -1,11 +1,11 @@
 -- What is told of a place that memory has right, in the words of vertices and triangles.
-use Rattle.std.proofs.Common.{◌≡◌, ℕ, ◌<◌, ◌≤◌, true, false, not, ◌&&◌, eqb, ◌≢◌, List, [], ◌∷◌, length, sym, refl, ap, ◌∙◌, subst, inl, inr, arith}
+use Rattle.std.proofs.Common.{◌≡◌, ℕ, ◌<◌, ◌≤◌, true, false, not, ◌&&◌, eqb, ◌≢◌, List, [], ◌∷◌, length, sym, refl, ap, ◌∙◌, inl, inr, arith}
 use borrow.Author.Differences.{ints}
-use Rattle.exact.specs.Plane.{or, any, Point, point, Vertex, spot, Tri, same_tri, inside_tri, left_of, on_segment, on_a_line, joined, outer_edge, all_numbers}
-use Rattle.exact.proofs.Booleans.{is_false, true_false, and_right, and←, and3←, or_left, or_right, not←, eqb_same}
-use Rattle.exact.proofs.Lists.{In, any←, any_false←, up_to→}
+use Rattle.exact.specs.Plane.{any, Point, point, Vertex, spot, Tri, same_tri, inside_tri, left_of, on_segment, on_a_line, joined, all_numbers}
+use Rattle.exact.proofs.Booleans.{is_false, and_right, and3←, or_left, or_right, not←, eqb_same}
+use Rattle.exact.proofs.Lists.{any←, any_false←, up_to→}
 use Rattle.exact.proofs.Algebra.Signs.{zero_sign_neg}
-use Rattle.exact.proofs.Geometry.Words.{Site, Dist², On, Apart, Between, InSegment, Within}
+use Rattle.exact.proofs.Geometry.Words.{Site, On, Apart, Between, Within}
 use Rattle.exact.proofs.Geometry.Tests.{left→, not_left←}
 use Rattle.exact.proofs.Geometry.Identities.Sides.{orders}
 use Rattle.exact.proofs.Geometry.Spots.{same_or_apart, same_at}
@@ -30,7 +30,7 @@ use Rattle.delaunay.proofs.AtRest.{vertices_length, spot_of, spots_geometric}
 use Rattle.delaunay.proofs.PointLocation.OnNoEdge.{not_outside, not_past}
 use Rattle.delaunay.proofs.Inserting.Told.{NoneAt, none_there, vertex_once}
 use Rattle.triangles.specs.House.{found, on_an_edge, Located, beyond as beyond_edge}
-use Rattle.triangles.specs.Machine.{place_row}
+use Rattle.triangles.specs.Rows.{place_row}
 use Rattle.triangles.proofs.Promises.Numbered.{found_alone}
 use Rattle.triangles.proofs.Promises.Grown.{here, nowhere}
 use Rattle.triangles.proofs.Promises.Houses.{house_of}

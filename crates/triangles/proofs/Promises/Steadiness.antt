@@ -1,6 +1,6 @@
 -- The machine's memory starts with zeros, keeps its length, and its numbers stay below 2^64, whatever is said.
 use Rattle.std.proofs.Common.{◌≡◌, ℕ, zero, suc, ◌+◌, ◌<◌, ◌≤◌, true, ◌&&◌, eqb, ltb, List, [], ◌∷◌, length, Some, None, Option, sym, refl, subst, arith}
-use Rattle.exact.specs.Plane.{every, point}
+use Rattle.exact.specs.Plane.{every}
 use Rattle.exact.proofs.Booleans.{and_left, and_right, and←, ltb→, ltb←}
 use Rattle.dcel.specs.Layout.{Size, header, total}
 use Rattle.dcel.specs.Memory.{cell, faces_in}
@@ -10,11 +10,10 @@ use Rattle.dcel.proofs.Steady.Instances.{AllBelow, length_keeping, below_keeping
 use Rattle.delaunay.specs.Insert.{inserted, inserted_number}
 use Rattle.delaunay.proofs.PointLocation.Tests.{picked}
 use Rattle.delaunay.proofs.Steady.Listing.{either_way}
-use Rattle.delaunay.proofs.Steady.Searching.{visited_keeps, nearest_left_keeps}
 use Rattle.delaunay.proofs.Steady.Insertion.{inserted_keeps}
 use Rattle.triangles.specs.House.{Command, insert, remove, locate, nearest, all_faces, around, hull, clear}
 use Rattle.triangles.specs.Promise.{Event, said, next, Step, Steady, all_small}
-use Rattle.triangles.specs.Machine.{mode, cursor, listing, at_end, told_number, in_square, small_enough, next_face, put_in, look_up, look_near, said_step, going_on, machine_step, zeros, machine}
+use Rattle.triangles.specs.Machine.{mode, cursor, listing, at_end, told_number, small_enough, next_face, put_in, said_step, going_on, machine_step, zeros, machine}
 use Rattle.triangles.proofs.Promises.Clearing.{zeros_long}
 
 -- memory is not too long, and coordinates are words
@@ -49,19 +48,11 @@ module _ (s : Size) (P : List ℕ → Type 0) (W : ℕ → Type 0) (K : Keeping 
       by None w = p
       by (Some v) w = end_keeps (inserted s m a b d) (inserted_keeps s P W K m p a b d w.0 w.1 w.2)
 
-  look_up_keeps : (m : List ℕ) (a b : ℕ) → P m → Kept (look_up s m a b)
-  unfolding look_up
-  look_up_keeps m a b p = either_way Kept (in_square s a b) _ _ (end_keeps _ (visited_keeps s P W K m p (point a b))) p
-
-  look_near_keeps : (m : List ℕ) (a b : ℕ) → P m → Kept (look_near s m a b)
-  unfolding look_near
-  look_near_keeps m a b p = either_way Kept (in_square s a b) _ _ (end_keeps _ (nearest_left_keeps s P W K m p (point a b))) p
-
   said_keeps : (m : List ℕ) (c : Command) → P m → Kept (said_step s m c)
   said_keeps m (insert a b d) p = put_in_keeps m a b d p
   said_keeps m (remove i) p = p
-  said_keeps m (locate a b) p = look_up_keeps m a b p
-  said_keeps m (nearest a b) p = look_near_keeps m a b p
+  said_keeps m (locate a b) p = p
+  said_keeps m (nearest a b) p = p
   said_keeps m all_faces p = next_face_keeps m 0 p
   said_keeps m (around i) p = p
   said_keeps m hull p = p

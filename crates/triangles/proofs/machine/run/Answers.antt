@@ -7,14 +7,6 @@ pub returns-in-0 : goal.returns-in-0
 unfolding machine_step event_of
 returns-in-0 c = search rules
 
-pub returns-in-2 : goal.returns-in-2
-unfolding machine_step event_of
-returns-in-2 c = search rules
-
-pub returns-in-3 : goal.returns-in-3
-unfolding machine_step event_of
-returns-in-3 c = search rules
-
 pub returns-in-4 : goal.returns-in-4
 unfolding machine_step event_of
 returns-in-4 c = search rules

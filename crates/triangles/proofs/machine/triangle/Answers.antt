@@ -1,6 +1,6 @@
 use Rattle.std.proofs.Common.{rules}
 use Rattle.dcel.specs.Geometry.{face_tri, from_least}
-use Rattle.triangles.proofs.machine.corners.Goals as goal
+use Rattle.triangles.proofs.machine.triangle.Goals as goal
 
 pub returns-then-a-c : goal.returns-then-a-c
 unfolding face_tri from_least

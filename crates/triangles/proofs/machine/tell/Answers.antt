@@ -1,27 +1,15 @@
 use Rattle.std.proofs.Common.{rules}
 use Rattle.triangles.specs.Entry.{ActTold}
-use Rattle.triangles.proofs.Entries.{one_set, two_set, three_set, four_set}
-use Rattle.triangles.proofs.outcome.tell.Goals as goal
-
-pub returns-in-Empty : goal.returns-in-Empty
-unfolding ActTold
-returns-in-Empty c = search rules
+use Rattle.triangles.proofs.Entries.{one_set, three_set}
+use Rattle.triangles.proofs.machine.tell.Goals as goal
 
 pub returns-in-One : goal.returns-in-One
 unfolding ActTold
 returns-in-One c = search (rules, one_set)
 
-pub returns-in-Two : goal.returns-in-Two
-unfolding ActTold
-returns-in-Two c = search (rules, two_set)
-
 pub returns-in-Three : goal.returns-in-Three
 unfolding ActTold
 returns-in-Three c = search (rules, three_set)
-
-pub returns-in-Four : goal.returns-in-Four
-unfolding ActTold
-returns-in-Four c = search (rules, four_set)
 
 pub returns-in-Done : goal.returns-in-Done
 unfolding ActTold
