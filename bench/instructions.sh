@@ -4,11 +4,11 @@
 set -eu
 cd "$(dirname "$0")/.."
 for program in bench_exact bench_delaunay; do
-    rt check $program >/dev/null 2>&1 || { echo "$program does not check" >&2; exit 1; }
+    (cd crates/$program && rt run -- $(cat args)) >/dev/null 2>&1 || { echo "$program does not check" >&2; exit 1; }
 done
 # refs PROGRAM N WHAT: instructions of one run
 refs() {
-    valgrind --tool=callgrind --callgrind-out-file=/dev/null "target/bin/$1" "$2" "$3" 2>&1 >/dev/null |
+    valgrind --tool=callgrind --callgrind-out-file=/dev/null "crates/$1/out/$1" "$2" "$3" 2>&1 >/dev/null |
         sed -n 's/.*I *refs: *//p' | tr -d ,
 }
 # each PROGRAM WHAT SHORT LONG: instructions of one turn
