@@ -1,7 +1,7 @@
 pub mod House
 pub mod Promise
 pub mod Machine
-pub mod Rows
+pub mod LookupRows
 pub mod Outcome
 pub mod Entry
 pub mod Request

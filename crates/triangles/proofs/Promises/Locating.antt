@@ -16,7 +16,7 @@ use Rattle.delaunay.proofs.PointLocation.Located.{located_right}
 use Rattle.delaunay.proofs.NearestVertex.Resuming.{resume_in}
 use Rattle.delaunay.proofs.Inserting.Told.{NoneAt}
 use Rattle.triangles.specs.House.{Located}
-use Rattle.triangles.specs.Rows.{place_row}
+use Rattle.triangles.specs.LookupRows.{place_row}
 use Rattle.triangles.proofs.Apart.{same_place}
 use Rattle.triangles.proofs.Promises.Modes.{Alike, resumed_alike, standing_long}
 use Rattle.triangles.proofs.Promises.Placed.{placed, none_found, one_found}

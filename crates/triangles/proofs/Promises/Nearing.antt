@@ -21,7 +21,7 @@ use Rattle.delaunay.specs.Kept.{vertices_of, Triangulated, Standing}
 use Rattle.delaunay.proofs.AtRest.{vertices_length, spot_of, spots_geometric, standing_delaunay, standing_plain}
 use Rattle.delaunay.proofs.NearestVertex.Found.{nearest_right, nearest_number_is, nearest_left_is, nearest_left_alone, nearest_number_none, nearest_number_alone}
 use Rattle.triangles.specs.House.{Nearest}
-use Rattle.triangles.specs.Rows.{row_of_one}
+use Rattle.triangles.specs.LookupRows.{row_of_one}
 use Rattle.triangles.proofs.Promises.Modes.{Alike, alike_itself, resumed_alike}
 use Rattle.triangles.proofs.Promises.Clearing.{no_vertices}
 use Rattle.triangles.proofs.Promises.Houses.{house_of}

@@ -30,7 +30,7 @@ use Rattle.delaunay.proofs.AtRest.{vertices_length, spot_of, spots_geometric}
 use Rattle.delaunay.proofs.PointLocation.OnNoEdge.{not_outside, not_past}
 use Rattle.delaunay.proofs.Inserting.Told.{NoneAt, none_there, vertex_once}
 use Rattle.triangles.specs.House.{found, on_an_edge, Located, beyond as beyond_edge}
-use Rattle.triangles.specs.Rows.{place_row}
+use Rattle.triangles.specs.LookupRows.{place_row}
 use Rattle.triangles.proofs.Promises.Numbered.{found_alone}
 use Rattle.triangles.proofs.Promises.Grown.{here, nowhere}
 use Rattle.triangles.proofs.Promises.Houses.{house_of}
