@@ -13,7 +13,7 @@ fn main(rt: HostRuntime) -> anyhow::Result<()> {
     let _program = words.next();
     let n = words.next().context("no number")?.parse::<u64>()?;
     let what = words.next().context("nothing to run")?;
-    let mut memory = vec![in rt.alloc(); 0u64; WORDS as usize]?;
+    let mut memory = vec![in rt.alloc(); 0u64; WORDS]?;
     let (vertices, faces) = run(&mut memory, what.as_str(), n);
     println!(rt; "{vertices} {faces}")?;
     Ok(())

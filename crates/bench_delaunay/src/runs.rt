@@ -1,8 +1,7 @@
 // What is measured: flips of one edge, splits of faces, points put in at random and in a grid, places looked up among them.
-ghost use Rattle.std.specs.Prelude.{◌≡◌, length};
-ghost use Rattle.dcel.specs.Layout.{real, total};
-
-use dcel::{EdgeId, WORDS, attach, faces, flip, put_first, put_second, split_face, vertices};
+use dcel::{
+    EdgeId, Memory, Site, WORDS, attach, faces, flip, put_first, put_second, split_face, vertices,
+};
 use delaunay::insert::insert;
 use delaunay::locate::{locate, resume};
 use delaunay::nearest::nearest;
@@ -12,111 +11,102 @@ use exact::position::{LIMIT, Position};
 const POINTS: u64 = 16384;
 
 pub fn run(memory: &mut [u64], what: &str, n: u64) -> (u64, u64) {
-    if memory.len() as u64 != WORDS {
+    let Some(memory) = memory.as_mut_array::<WORDS>() else {
         return (0, 0);
-    }
+    };
+    // A word chooses the run: a table of functions would hand out pointers.
     match what {
         "flip" => flips(memory, n),
         "split" => splits(memory, n),
         "insert" => {
-            let _seed = inserts(memory, n);
+            let mut generator = Generator { seed: 1 };
+            inserts(memory, n, |_| generator.next());
         }
-        "grid" => grid(memory, n),
-        "locate" => locates(memory, n),
-        "nearest" => nearests(memory, n),
+        "grid" => inserts(memory, n, grid),
+        "locate" => lookups(memory, n, |memory, p| {
+            let place = locate(memory, p);
+            resume(memory, place);
+        }),
+        "nearest" => lookups(memory, n, |memory, p| {
+            let _vertex = nearest(memory, p);
+        }),
         _ => {}
     }
     (vertices(memory), faces(memory))
 }
 
+// Shorter than the literal; the tests of dcel have the like, in a crate of their own.
+fn site(x: u64, y: u64, data: u64) -> Site {
+    Site { x, y, data }
+}
+
+// One face.
+fn face(memory: &mut Memory) {
+    put_first(memory, site(0, 4, 0));
+    put_second(memory, site(4, 4, 0));
+    attach(memory, EdgeId(0), site(2, 8, 0));
+}
+
 // One edge between two faces, flipped n times.
-fn flips(memory: &mut [u64], n: u64)
-    requires { length memory.old ≡ total real }
-    ensures { length memory.new ≡ total real }
-{
-    put_first(memory, 0, 4, 0);
-    put_second(memory, 4, 4, 0);
-    attach(memory, EdgeId(0), 2, 8, 0);
-    attach(memory, EdgeId(1), 2, 0, 0);
-    for i in 0..n {
+fn flips(memory: &mut Memory, n: u64) {
+    face(memory);
+    attach(memory, EdgeId(1), site(2, 0, 0));
+    for _ in 0..n {
         flip(memory, EdgeId(0));
     }
 }
 
 // One face, and then n vertices inside it.
-fn splits(memory: &mut [u64], n: u64)
-    requires { length memory.old ≡ total real }
-    ensures { length memory.new ≡ total real }
-{
-    put_first(memory, 0, 4, 0);
-    put_second(memory, 4, 4, 0);
-    attach(memory, EdgeId(0), 2, 8, 0);
+fn splits(memory: &mut Memory, n: u64) {
+    face(memory);
     for i in 0..n {
-        split_face(memory, EdgeId(0), 2, 5, i);
+        split_face(memory, EdgeId(0), site(2, 5, i));
     }
 }
 
-fn next(seed: u64) -> u64 {
-    seed.wrapping_mul(6364136223846793005)
-        .wrapping_add(1442695040888963407)
+// Pseudo-random positions, one after another. The same as in the other benchmark, since each program is a crate of its own.
+#[derive(Clone, Copy)]
+struct Generator {
+    seed: u64,
 }
 
-// The point that a seed stands for.
-fn position(seed: u64) -> Position {
-    Position {
-        x: (seed / LIMIT) % LIMIT,
-        y: (seed / LIMIT / LIMIT) % LIMIT,
-    }
-}
-
-// n points that a generator makes. Where it is then.
-fn inserts(memory: &mut [u64], n: u64) -> u64
-    requires { length memory.old ≡ total real }
-    ensures { length memory.new ≡ total real }
-{
-    let mut seed = 1;
-    for i in 0..n {
-        seed = next(seed);
-        let _number = insert(memory, position(seed), i);
-    }
-    seed
-}
-
-// n places that the generator makes after the points, each looked up from where the last one was found.
-fn locates(memory: &mut [u64], n: u64)
-    requires { length memory.old ≡ total real }
-    ensures { length memory.new ≡ total real }
-{
-    let mut seed = inserts(memory, POINTS);
-    for i in 0..n {
-        seed = next(seed);
-        let place = locate(memory, position(seed));
-        resume(memory, place);
-    }
-}
-
-// The same for the nearest vertex.
-fn nearests(memory: &mut [u64], n: u64)
-    requires { length memory.old ≡ total real }
-    ensures { length memory.new ≡ total real }
-{
-    let mut seed = inserts(memory, POINTS);
-    for i in 0..n {
-        seed = next(seed);
-        let _vertex = nearest(memory, position(seed));
+impl Generator {
+    fn next(&mut self) -> Position {
+        self.seed = self
+            .seed
+            .wrapping_mul(6364136223846793005)
+            .wrapping_add(1442695040888963407);
+        Position {
+            x: (self.seed / LIMIT) % LIMIT,
+            y: (self.seed / LIMIT / LIMIT) % LIMIT,
+        }
     }
 }
 
 // A grid of 128 columns, row by row.
-fn grid(memory: &mut [u64], n: u64)
-    requires { length memory.old ≡ total real }
-    ensures { length memory.new ≡ total real }
+fn grid(i: u64) -> Position {
+    Position {
+        x: i % 128,
+        y: (i / 128) % LIMIT,
+    }
+}
+
+// n points, one after another. The number of each is its data.
+fn inserts<F: FnMut(u64) -> Position>(memory: &mut Memory, n: u64, mut point: F)
+    requires { F.IsAlwaysCallable point }
 {
     for i in 0..n {
-        let p = Position {
-            x: i % 128,
-            y: (i / 128) % LIMIT,
-        };
-        let _number = insert(memory, p, i);
+        let _number = insert(memory, point(i), i);
+    }
+}
+
+// n places after as many points as there is room for, each looked up from where the last one was found.
+fn lookups<F: FnMut(&mut Memory, Position)>(memory: &mut Memory, n: u64, mut look: F)
+    requires { F.IsAlwaysCallable look }
+{
+    let mut generator = Generator { seed: 1 };
+    inserts(memory, POINTS, |_| generator.next());
+    for _ in 0..n {
+        look(memory, generator.next());
     }
 }

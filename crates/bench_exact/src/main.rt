@@ -12,14 +12,12 @@ fn main(rt: HostRuntime) -> anyhow::Result<()> {
     let _program = words.next();
     let n = words.next().context("no number")?.parse::<u64>()?;
     let test = words.next().context("no test")?;
+    // A word chooses the run: a table of functions would hand out pointers.
     let counts = match test.as_str() {
         "side" => sides(n),
         "circle" => circles(n),
         _ => places(n),
     };
-    let below = counts.below;
-    let zero = counts.zero;
-    let above = counts.above;
-    println!(rt; "{below} {zero} {above}")?;
+    println!(rt; "{} {} {}", counts.below, counts.zero, counts.above)?;
     Ok(())
 }

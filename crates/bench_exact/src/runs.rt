@@ -4,6 +4,7 @@ ghost use Rattle.std.specs.Prelude.{◌≡◌, ◌+◌};
 use exact::plane::{circle, side};
 use exact::position::{LIMIT, Position};
 use exact::verdict::{Circle, Side};
+use std::cmp::Ordering;
 
 // How often a determinant was below 0, 0, and above 0.
 #[derive(Clone, Copy)]
@@ -13,91 +14,87 @@ pub struct Counts {
     pub above: u64,
 }
 
-fn next(seed: u64) -> u64 {
-    seed.wrapping_mul(6364136223846793005)
-        .wrapping_add(1442695040888963407)
+// Pseudo-random positions, one after another. The same as in the other benchmark, since each program is a crate of its own.
+#[derive(Clone, Copy)]
+struct Generator {
+    seed: u64,
 }
 
-fn place(seed: u64) -> Position {
-    Position {
-        x: (seed / LIMIT) % LIMIT,
-        y: (seed / LIMIT / LIMIT) % LIMIT,
-    }
-}
-
-// by side
-pub fn sides(n: u64) -> Counts
-    ensures { result.below + result.zero + result.above ≡ n }
-{
-    let mut seed = 1;
-    seed = next(seed);
-    let mut p = place(seed);
-    seed = next(seed);
-    let mut q = place(seed);
-    let mut below = 0;
-    let mut zero = 0;
-    let mut above = 0;
-    for i in 0..n {
-        seed = next(seed);
-        let r = place(seed);
-        match side(p, q, r) {
-            Side::Right => below += 1,
-            Side::On => zero += 1,
-            Side::Left => above += 1,
+impl Generator {
+    fn next(&mut self) -> Position {
+        self.seed = self
+            .seed
+            .wrapping_mul(6364136223846793005)
+            .wrapping_add(1442695040888963407);
+        Position {
+            x: (self.seed / LIMIT) % LIMIT,
+            y: (self.seed / LIMIT / LIMIT) % LIMIT,
         }
-        p = q;
-        q = r;
     }
-    Counts { below, zero, above }
 }
 
-// by circle
-pub fn circles(n: u64) -> Counts
+// How n calls come out. The counter has a name for the loop's invariant. An order is asked by its tests, which takes fewer instructions than a match.
+fn tally<F: FnMut() -> Ordering>(n: u64, mut call: F) -> Counts
+    requires { F.IsAlwaysCallable call }
     ensures { result.below + result.zero + result.above ≡ n }
 {
-    let mut seed = 1;
-    seed = next(seed);
-    let mut p = place(seed);
-    seed = next(seed);
-    let mut q = place(seed);
-    seed = next(seed);
-    let mut r = place(seed);
     let mut below = 0;
     let mut zero = 0;
     let mut above = 0;
     for i in 0..n {
-        seed = next(seed);
-        let s = place(seed);
-        match circle(p, q, r, s) {
-            Circle::Outside => below += 1,
-            Circle::On => zero += 1,
-            Circle::Inside => above += 1,
-        }
-        p = q;
-        q = r;
-        r = s;
-    }
-    Counts { below, zero, above }
-}
-
-// by the order of a position's coordinates: what the generator and the counting take
-pub fn places(n: u64) -> Counts
-    ensures { result.below + result.zero + result.above ≡ n }
-{
-    let mut seed = 1;
-    let mut below = 0;
-    let mut zero = 0;
-    let mut above = 0;
-    for i in 0..n {
-        seed = next(seed);
-        let p = place(seed);
-        if p.x < p.y {
+        let order = call();
+        if order.is_lt() {
             below += 1;
-        } else if p.x == p.y {
+        } else if order.is_eq() {
             zero += 1;
         } else {
             above += 1;
         }
     }
     Counts { below, zero, above }
+}
+
+// by side
+pub fn sides(n: u64) -> Counts
+    ensures { result.below + result.zero + result.above ≡ n }
+{
+    let mut generator = Generator { seed: 1 };
+    let mut p = generator.next();
+    let mut q = generator.next();
+    tally(n, move || {
+        let r = generator.next();
+        let told = side(p, q, r);
+        p = q;
+        q = r;
+        told.cmp(&Side::On)
+    })
+}
+
+// by circle
+pub fn circles(n: u64) -> Counts
+    ensures { result.below + result.zero + result.above ≡ n }
+{
+    let mut generator = Generator { seed: 1 };
+    let mut p = generator.next();
+    let mut q = generator.next();
+    let mut r = generator.next();
+    tally(n, move || {
+        let s = generator.next();
+        let told = circle(p, q, r, s);
+        p = q;
+        q = r;
+        r = s;
+        told.cmp(&Circle::On)
+    })
+}
+
+// by the order of a position's coordinates: what the generator and the counting take
+pub fn places(n: u64) -> Counts
+    ensures { result.below + result.zero + result.above ≡ n }
+{
+    let mut generator = Generator { seed: 1 };
+    tally(n, move || {
+        let p = generator.next();
+        p.x.cmp(&p.y)
+    })
 }

@@ -2,6 +2,7 @@
 use crate::plane::Point;
 use crate::random::Random;
 use std::alloc::{AllocError, Global};
+use std::iter;
 
 #[derive(Clone, Copy)]
 pub enum Figure {
@@ -33,109 +34,94 @@ impl Figure {
         number: u64,
         more: u64,
     ) -> Result<Vec<Point>, AllocError> {
-        let mut points = Vec::new(heap);
-        self.draw(&mut points, random, number)?;
-        anywhere(&mut points, random, 2 * CENTRE, more)?;
+        let mut points = self.draw(heap, random, number)?;
+        points.extend((0..more).map(|_| random.point(2 * CENTRE)))?;
         random.shuffle(&mut points);
         Ok(points)
     }
 
     fn draw(
         self,
-        points: &mut Vec<Point>,
+        heap: Global,
         random: &mut Random,
         number: u64,
-    ) -> Result<(), AllocError> {
+    ) -> Result<Vec<Point>, AllocError> {
         match self {
-            Figure::Part(side) => part(points, side, number),
-            Figure::Stretched => {
-                part(points, 4, random.bits())?;
-                stretch(points);
-                Ok(())
-            }
+            Figure::Part(side) => part(heap, side, number),
+            Figure::Stretched => stretched(heap, random.bits()),
             Figure::Moved => {
-                part(points, 4, random.bits())?;
-                stretch(points);
-                jolt(points, random);
-                Ok(())
+                let mut points = stretched(heap, random.bits())?;
+                jolt(&mut points, random);
+                Ok(points)
             }
-            Figure::Anywhere(side) => anywhere(points, random, side, 12),
-            Figure::Line => line(points, random),
-            Figure::Circle(square) => circle(points, square),
+            Figure::Anywhere(side) => (0..12).map(|_| random.point(side)).collect(heap),
+            Figure::Line => line(heap, random),
+            Figure::Circle(square) => circle(heap, square),
         }
     }
 }
 
-fn part(points: &mut Vec<Point>, side: u32, bits: u64) -> Result<(), AllocError> {
-    let mut bits = bits;
-    for x in 0..side {
-        for y in 0..side {
-            if bits % 2 == 1 {
-                points.push(Point { x, y })?;
-            }
-            bits /= 2;
-        }
-    }
-    Ok(())
+// All points of a grid of so many columns and rows.
+fn grid(heap: Global, side: u32) -> Result<Vec<Point>, AllocError> {
+    (0..side)
+        .flat_map(|x| (0..side).map(move |y| Point { x, y }))
+        .collect(heap)
 }
 
-fn stretch(points: &mut [Point]) {
-    for p in points.iter_mut() {
-        p.x = p.x.wrapping_mul(STRETCH);
-        p.y = p.y.wrapping_mul(STRETCH);
-    }
+// The points of a grid whose bits in a number, from the lowest on, are 1.
+fn part(heap: Global, side: u32, bits: u64) -> Result<Vec<Point>, AllocError> {
+    grid(heap, side)?
+        .iter()
+        .zip(0..u64::BITS)
+        .filter(|(_, i)| (bits >> *i) & 1 == 1)
+        .map(|(p, _)| *p)
+        .collect(heap)
+}
+
+// Points of a grid of 4 by 4, stretched over the whole plane.
+fn stretched(heap: Global, bits: u64) -> Result<Vec<Point>, AllocError> {
+    part(heap, 4, bits)?
+        .iter()
+        .map(|p| Point {
+            x: p.x.wrapping_mul(STRETCH),
+            y: p.y.wrapping_mul(STRETCH),
+        })
+        .collect(heap)
 }
 
 // Moves points by at most two, to where no coordinate is below 0 or too large.
 fn jolt(points: &mut [Point], random: &mut Random) {
-    for p in points.iter_mut() {
+    for p in points {
         p.x = p.x.saturating_sub(random.below(3));
         p.y = p.y.saturating_sub(random.below(3));
     }
 }
 
-fn anywhere(
-    points: &mut Vec<Point>,
-    random: &mut Random,
-    side: u32,
-    count: u64,
-) -> Result<(), AllocError> {
-    for _ in 0..count {
-        let x = random.below(side);
-        let y = random.below(side);
-        points.push(Point { x, y })?;
-    }
-    Ok(())
-}
-
 // Eight points in a row: level, upright, rising or falling, or all the same.
-fn line(points: &mut Vec<Point>, random: &mut Random) -> Result<(), AllocError> {
+fn line(heap: Global, random: &mut Random) -> Result<Vec<Point>, AllocError> {
     let right = random.below(4);
     let up = random.below(4);
     let down = random.below(4);
-    let mut x = random.below(8);
-    let mut y = random.below(8).wrapping_add(24);
-    for _ in 0..8u8 {
-        points.push(Point { x, y })?;
-        x = x.wrapping_add(right);
-        y = y.wrapping_add(up).wrapping_sub(down);
-    }
-    Ok(())
+    let first = Point {
+        x: random.below(8),
+        y: random.below(8).wrapping_add(24),
+    };
+    iter::successors(Some(first), |p| {
+        Some(Point {
+            x: p.x.wrapping_add(right),
+            y: p.y.wrapping_add(up).wrapping_sub(down),
+        })
+    })
+    .take(8)
+    .collect(heap)
 }
 
-fn circle(points: &mut Vec<Point>, square: u32) -> Result<(), AllocError> {
-    for x in 0..2 * CENTRE {
-        for y in 0..2 * CENTRE {
-            let across = x.abs_diff(CENTRE);
-            let up = y.abs_diff(CENTRE);
-            if across
-                .wrapping_mul(across)
-                .wrapping_add(up.wrapping_mul(up))
-                == square
-            {
-                points.push(Point { x, y })?;
-            }
-        }
-    }
-    Ok(())
+fn circle(heap: Global, square: u32) -> Result<Vec<Point>, AllocError> {
+    let centre = Point {
+        x: CENTRE,
+        y: CENTRE,
+    };
+    let mut points = grid(heap, 2 * CENTRE)?;
+    points.retain(|p| (*p - centre).square().0 == i128::from(square));
+    Ok(points)
 }

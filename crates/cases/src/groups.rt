@@ -1,7 +1,7 @@
 // The groups of cases, and a line for each.
+use crate::bench::Bench;
 use crate::figures::Figure;
 use crate::random::Random;
-use crate::report::{tell, tell_fault};
 use crate::tally::Tally;
 use crate::{trial, worked};
 use std::io;
@@ -15,6 +15,7 @@ struct Group {
 }
 
 // 65536 cases are all parts of a grid of 4 by 4; a smaller grid has each of its parts in several orders.
+// Each says `more: 0`, since a constant calls no constructor, and an update as `..PLAIN` is no shorter.
 const GROUPS: [Group; 14] = [
     Group {
         name: "grid 2 by 2",
@@ -102,37 +103,24 @@ const GROUPS: [Group; 14] = [
     },
 ];
 
-pub fn go_through(rt: &HostRuntime, memory: &mut [u64]) -> io::Result<()> {
-    let mut all = worked::examples(rt, memory)?;
-    tell(rt, "worked examples", all)?;
+pub fn go_through(bench: &mut Bench) -> io::Result<()> {
+    let mut all = worked::examples(bench)?;
+    bench.tell("worked examples", all)?;
     for group in &GROUPS {
-        all.add(try_group(rt, memory, group)?);
+        all += try_group(bench, group)?;
     }
-    tell(rt, "all", all)
+    bench.tell("all", all)
 }
 
-fn try_group(rt: &HostRuntime, memory: &mut [u64], group: &Group) -> io::Result<Tally> {
+fn try_group(bench: &mut Bench, group: &Group) -> io::Result<Tally> {
     let mut random = Random(1);
-    let mut tally = Tally::new();
+    let mut tally = Tally::default();
     for number in 0..group.cases {
-        tally.count(holds(rt, memory, group, number, &mut random)?);
+        let heap = bench.heap();
+        let points = group.figure.points(heap, &mut random, number, group.more)?;
+        let outcome = trial::run(&mut bench.machine, heap, &points);
+        tally.count(bench.holds(outcome, &points)?);
     }
-    tell(rt, group.name, tally)?;
+    bench.tell(group.name, tally)?;
     Ok(tally)
-}
-
-// Tries a case, and tells what goes wrong.
-fn holds(
-    rt: &HostRuntime,
-    memory: &mut [u64],
-    group: &Group,
-    number: u64,
-    random: &mut Random,
-) -> io::Result<bool> {
-    let points = group.figure.points(rt.alloc(), random, number, group.more)?;
-    let fault = trial::fault(memory, rt.alloc(), &points)?;
-    if let Some(what) = fault {
-        tell_fault(rt, what, &points)?;
-    }
-    Ok(fault.is_none())
 }

@@ -1,59 +1,73 @@
 // The machine as the cases drive it: clear, put a point in, list all faces.
+use crate::fault::{Fault, check};
 use crate::plane::Point;
 use std::alloc::{AllocError, Global};
-use triangles::{GO_ON, Told, step};
+use triangles::points::Site;
+use triangles::refusal::Refusal;
+use triangles::request::Request;
+use triangles::{GO_ON, MEMORY, ROW, Told, step};
 
 // The numbers of a triangle's corners.
 #[derive(Clone, Copy, PartialEq, Eq)]
 pub struct Row(pub u64, pub u64, pub u64);
 
-const INSERT: u64 = 0;
-
-const ALL_FACES: u64 = 4;
-
-const CLEAR: u64 = 7;
-
 // More rows than any case shows.
 const ROWS: u64 = 1000;
 
-pub fn clear(memory: &mut [u64]) -> bool {
-    let mut out = [0u64; 4];
-    ends(step(memory, CLEAR, 0, 0, 0, &mut out))
+#[derive(Drop)]
+pub struct Machine {
+    memory: Vec<u64>,
+    heap: Global,
 }
 
-// Puts a point in. Its number, or None if the answer is not just a number.
-pub fn insert(memory: &mut [u64], p: Point) -> Option<u64> {
-    let mut out = [0u64; 4];
-    let Told::Shows(1) = step(memory, INSERT, p.x as u64, p.y as u64, 0, &mut out) else {
-        return None;
-    };
-    let number = out[0];
-    if ends(step(memory, GO_ON, 0, 0, 0, &mut out)) {
-        Some(number)
-    } else {
-        None
+impl Machine {
+    pub fn new(heap: Global) -> Result<Machine, AllocError> {
+        let memory = vec![in heap; 0u64; MEMORY]?;
+        Ok(Machine { memory, heap })
     }
-}
 
-fn ends(told: Told) -> bool {
-    match told {
-        Told::Done => true,
-        _ => false,
+    pub fn clear(&mut self) -> Result<(), Fault> {
+        let told = self.say(Request::Clear, &mut [0; ROW]);
+        check(told == Ok(Told::Done), Fault::NotCleared)
     }
-}
 
-// All faces. None if the answer is not rows of three and then the end.
-pub fn faces(memory: &mut [u64], heap: Global) -> Result<Option<Vec<Row>>, AllocError> {
-    let mut rows = Vec::new(heap);
-    let mut kind = ALL_FACES;
-    for _ in 0..ROWS {
-        let mut out = [0u64; 4];
-        match step(memory, kind, 0, 0, 0, &mut out) {
-            Told::Shows(3) => rows.push(Row(out[0], out[1], out[2]))?,
-            Told::Done => return Ok(Some(rows)),
-            _ => return Ok(None),
+    // Puts a point in. Its number, unless something else is answered.
+    pub fn insert(&mut self, p: Point) -> Result<u64, Fault> {
+        let mut row = [0; ROW];
+        let site = Site {
+            x: p.x.into(),
+            y: p.y.into(),
+            data: 0,
+        };
+        let told = self.say(Request::Insert(site), &mut row);
+        check(told == Ok(Told::Shows(1)), Fault::OtherNumber)?;
+        let number = row[0];
+        check(self.go_on(&mut row) == Ok(Told::Done), Fault::OtherNumber)?;
+        Ok(number)
+    }
+
+    // All faces, unless the answer is something else than rows of three and then the end.
+    pub fn faces(&mut self) -> Result<Vec<Row>, Fault> {
+        let mut rows = Vec::new(self.heap);
+        let mut row = [0; ROW];
+        let mut told = self.say(Request::AllFaces, &mut row);
+        for _ in 0..ROWS {
+            match told {
+                Ok(Told::Shows(3)) => rows.push(Row(row[0], row[1], row[2]))?,
+                Ok(Told::Done) => return Ok(rows),
+                _ => return Err(Fault::NoRows),
+            }
+            told = self.go_on(&mut row);
         }
-        kind = GO_ON;
+        Err(Fault::NoRows)
     }
-    Ok(None)
+
+    fn say(&mut self, request: Request, row: &mut [u64; ROW]) -> Result<Told, Refusal> {
+        let (kind, a, b, c) = request.words();
+        step(&mut self.memory, kind, a, b, c, row)
+    }
+
+    fn go_on(&mut self, row: &mut [u64; ROW]) -> Result<Told, Refusal> {
+        step(&mut self.memory, GO_ON, 0, 0, 0, row)
+    }
 }

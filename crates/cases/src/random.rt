@@ -1,4 +1,4 @@
-// A generator of numbers with a fixed start, so that every run tries the same cases.
+// A generator of numbers with a fixed start, so that every run tries the same cases. The benchmarks have the like: each program is a crate of its own.
 use crate::plane::Point;
 
 #[derive(Clone, Copy)]
@@ -22,8 +22,17 @@ impl Random {
         self.0 >> 33
     }
 
+    // A point of a square of so many columns and rows.
+    pub fn point(&mut self, side: u32) -> Point {
+        Point {
+            x: self.below(side),
+            y: self.below(side),
+        }
+    }
+
     pub fn shuffle(&mut self, points: &mut [Point]) {
         let n = points.len();
+        // Each step swaps two places, so the loop goes over indices.
         for i in 0..n {
             let j = self.bits() as usize % n;
             points.swap(i, j);

@@ -1,25 +1,24 @@
 // How many cases were tried, and how many of them hold.
 use std::fmt;
+use std::ops::AddAssign;
 
-#[derive(Clone, Copy)]
+#[derive(Clone, Copy, Default)]
 pub struct Tally {
-    pub tried: u64,
-    pub held: u64,
+    tried: u64,
+    held: u64,
 }
 
 impl Tally {
-    pub fn new() -> Tally {
-        Tally { tried: 0, held: 0 }
-    }
-
     pub fn count(&mut self, holds: bool) {
-        self.tried = self.tried.wrapping_add(1);
-        if holds {
-            self.held = self.held.wrapping_add(1);
-        }
+        *self += Tally {
+            tried: 1,
+            held: holds.into(),
+        };
     }
+}
 
-    pub fn add(&mut self, other: Tally) {
+impl AddAssign for Tally {
+    fn add_assign(&mut self, other: Tally) {
         self.tried = self.tried.wrapping_add(other.tried);
         self.held = self.held.wrapping_add(other.held);
     }
@@ -27,8 +26,6 @@ impl Tally {
 
 impl fmt::Display for Tally {
     fn fmt<W: fmt::Write>(&self, f: &mut fmt::Formatter<W>) -> fmt::Result {
-        let tried = self.tried;
-        let held = self.held;
-        write!(f, "{held} of {tried} hold")
+        write!(f, "{} of {} hold", self.held, self.tried)
     }
 }

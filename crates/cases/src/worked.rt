@@ -1,86 +1,66 @@
 // Examples that were worked out by hand: the triangles that must be shown.
-use crate::machine::{Row, clear, faces, insert};
+use crate::bench::Bench;
+use crate::fault::{Fault, check};
+use crate::machine::{Machine, Row};
 use crate::plane::Point;
-use crate::report::tell_fault;
 use crate::tally::Tally;
-use std::alloc::{AllocError, Global};
 use std::io;
 
-pub fn examples(rt: &HostRuntime, memory: &mut [u64]) -> io::Result<Tally> {
-    let mut tally = Tally::new();
-    tally.count(rectangle(rt, memory)?);
-    tally.count(square(rt, memory)?);
-    tally.count(row(rt, memory)?);
+pub fn examples(bench: &mut Bench) -> io::Result<Tally> {
+    let mut tally = Tally::default();
+    tally.count(rectangle(bench)?);
+    tally.count(square(bench)?);
+    tally.count(row(bench)?);
     Ok(tally)
 }
 
 // A rectangle with a point inside.
-fn rectangle(rt: &HostRuntime, memory: &mut [u64]) -> io::Result<bool> {
+fn rectangle(bench: &mut Bench) -> io::Result<bool> {
     let points = [at(0, 0), at(4, 0), at(4, 3), at(0, 3), at(2, 1)];
     let fan = [Row(2, 3, 4), Row(0, 4, 3), Row(0, 1, 4), Row(1, 2, 4)];
-    shows(rt, memory, &points, &fan, &fan)
+    shows(bench, &points, &fan, &fan)
 }
 
 // Four points on a circle: either diagonal is right.
-fn square(rt: &HostRuntime, memory: &mut [u64]) -> io::Result<bool> {
+fn square(bench: &mut Bench) -> io::Result<bool> {
     let points = [at(0, 0), at(6, 0), at(6, 6), at(0, 6)];
     let one = [Row(0, 1, 2), Row(0, 2, 3)];
     let other = [Row(0, 1, 3), Row(1, 2, 3)];
-    shows(rt, memory, &points, &one, &other)
+    shows(bench, &points, &one, &other)
 }
 
 // Four points on a line.
-fn row(rt: &HostRuntime, memory: &mut [u64]) -> io::Result<bool> {
+fn row(bench: &mut Bench) -> io::Result<bool> {
     let points = [at(1, 1), at(3, 1), at(2, 1), at(5, 1)];
-    shows(rt, memory, &points, &[], &[])
+    shows(bench, &points, &[], &[])
 }
 
 // Whether the one triangles or the other are shown.
-fn shows(
-    rt: &HostRuntime,
-    memory: &mut [u64],
-    points: &[Point],
-    one: &[Row],
-    other: &[Row],
-) -> io::Result<bool> {
-    let rows = rows_of(memory, rt.alloc(), points)?;
-    let holds = same(&rows, one) || same(&rows, other);
-    if !holds {
-        tell_fault(rt, "other triangles are shown than were worked out", points)?;
-    }
-    Ok(holds)
+fn shows(bench: &mut Bench, points: &[Point], one: &[Row], other: &[Row]) -> io::Result<bool> {
+    let outcome = match rows_of(&mut bench.machine, points) {
+        Err(Fault::NoMemory(e)) => Err(e.into()),
+        rows => check(
+            rows.is_ok_and(|rows| same(&rows, one) || same(&rows, other)),
+            Fault::OtherTriangles,
+        ),
+    };
+    bench.holds(outcome, points)
 }
 
 fn at(x: u32, y: u32) -> Point {
     Point { x, y }
 }
 
-// All faces once the points are in. None if something else is answered than should be.
-fn rows_of(
-    memory: &mut [u64],
-    heap: Global,
-    points: &[Point],
-) -> Result<Option<Vec<Row>>, AllocError> {
-    if !clear(memory) {
-        return Ok(None);
-    }
+// All faces once the points are in.
+fn rows_of(machine: &mut Machine, points: &[Point]) -> Result<Vec<Row>, Fault> {
+    machine.clear()?;
     for (i, p) in points.iter().enumerate() {
-        if insert(memory, *p) != Some(i as u64) {
-            return Ok(None);
-        }
+        check(machine.insert(*p)? == i as u64, Fault::OtherNumber)?;
     }
-    faces(memory, heap)
+    machine.faces()
 }
 
 // Whether the same triangles are shown, in any order.
-fn same(rows: &Option<Vec<Row>>, want: &[Row]) -> bool {
-    let Some(rows) = rows else {
-        return false;
-    };
-    for row in want {
-        if !rows.contains(row) {
-            return false;
-        }
-    }
-    rows.len() == want.len()
+fn same(rows: &[Row], want: &[Row]) -> bool {
+    rows.len() == want.len() && want.iter().all(|row| rows.contains(row))
 }

@@ -1,6 +1,6 @@
 -- The map in memory after a change is written is the patched map.
 use Rattle.std.proofs.Common.{◌≡◌, ℕ, ◌*◌, ◌<◌, ◌≤◌, List, [], ◌∷◌, length, refl, ap, ◌∙◌, arith}
-use mathlib.Core.Path.{fun_ext}
+use Rattle.std.proofs.Math.Path.{fun_ext}
 use Rattle.dcel.specs.Layout.{Size, Table, vertex_out, edge_next, edge_prev, edge_face, edge_origin, face_edge, total}
 use Rattle.dcel.specs.Pairs.{Pairs, changed, reversed, All}
 use Rattle.dcel.specs.Map.{Map}

@@ -1,8 +1,7 @@
 -- Memory that holds a mesh holds one after a surgery: the patched one.
-use Rattle.std.proofs.Common.{◌≡◌, ℕ, ◌*◌, ◌%◌, ◌<◌, ◌≤◌, List, length, sym, refl, ap, ◌∙◌, subst, inl, inr, arith}
-use mathlib.Core.Path.{fun_ext}
-use native.Mathlib.Decide.{dec_lt}
-use Rattle.std.proofs.lemmas.Bool.{lt-ltb, le-ltb}
+use Rattle.std.proofs.Common.{◌≡◌, ℕ, ◌*◌, ◌%◌, ◌<◌, ◌≤◌, List, length, sym, refl, ap, ◌∙◌, subst, inl, inr, arith, le_of_lt, le_refl, le_antisymm}
+use Rattle.std.proofs.Math.Path.{fun_ext}
+use Rattle.std.proofs.lemmas.Bool.{lt-ltb, le-ltb, cases_lt}
 use Rattle.dcel.specs.Layout.{Size, Table, header, vertex_x, vertex_y, vertex_data, vertex_out, edge_next, edge_prev, edge_face, edge_origin, face_edge, worklist, total}
 use Rattle.dcel.specs.Pairs.{Source, changed, reversed}
 use Rattle.dcel.specs.Mesh.{Mesh}
@@ -19,11 +18,11 @@ use Rattle.dcel.proofs.Applied.{InRange, in_range, rewire_other, length_rewire, 
 
 pub at_most_same : (limit n : ℕ) → n ≤ limit → at_most limit n ≡ n
 unfolding at_most
-at_most_same limit n h = elim (dec_lt n limit) [ yes l ↦ rw (lt-ltb n limit l) | no l ↦ (let q : limit ≡ n = omega arith in let k : limit ≤ n = omega arith in rw (le-ltb n limit k) q) ]
+at_most_same limit n h = elim (cases_lt n limit) [ inl l ↦ rw (lt-ltb n limit l) | inr l ↦ rw (le-ltb n limit l) (le_antisymm l h) ]
 
 pub at_most_below : (limit n : ℕ) → at_most limit n ≤ limit
 unfolding at_most
-at_most_below limit n = elim (dec_lt n limit) [ yes l ↦ (let k : n ≤ limit = omega arith in rw (lt-ltb n limit l) k) | no l ↦ (let k : limit ≤ n = omega arith in let q : limit ≤ limit = omega arith in rw (le-ltb n limit k) q) ]
+at_most_below limit n = elim (cases_lt n limit) [ inl l ↦ rw (lt-ltb n limit l) (le_of_lt l) | inr l ↦ rw (le-ltb n limit l) (le_refl limit) ]
 
 -- what a change writes, whatever mesh it makes
 module _ (s : Size) (m : List ℕ) (z : length m ≡ total s) (c : Change) (range : InRange s (patch_of c)) where
@@ -117,7 +116,7 @@ module _ (s : Size) (m : List ℕ) (z : length m ≡ total s) (c : Change) (rang
     }
       where
         below : (i : ℕ) → 3 ≤ i → Source i (counts c.vertices c.half_edges c.faces) → ⊥
-        below i h k = elim k [ inl e ↦ omega arith | inr k ↦ elim k [ inl e ↦ omega arith | inr k ↦ elim k [ inl e ↦ omega arith | inr k ↦ k ] ] ]
+        below i h k = grind arith
 
   -- with a vertex put into its row
   pub applied_with : Room s (patched (patch_of c) (map_of s m)) → (v x y d : ℕ) → v < s.vertices →

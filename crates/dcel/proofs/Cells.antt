@@ -1,7 +1,6 @@
 -- What is read from a table after a write to it, or to another.
-use Rattle.std.proofs.Common.{◌≡◌, ℕ, ◌<◌, ◌≤◌, Bool, true, false, cond, eqb, ltb, ◌≢◌, List, [], ◌∷◌, length, get_or, set, refl, ap, ◌∙◌, arith, length-set, get_or-set_other, get_or-set_same}
-use native.Mathlib.Decide.{ℕ_discrete, dec_lt}
-use Rattle.std.proofs.lemmas.Bool.{eq-eqb, ne_eqb, lt-ltb, le-ltb}
+use Rattle.std.proofs.Common.{◌≡◌, ℕ, ◌<◌, ◌≤◌, cond, eqb, ltb, ◌≢◌, List, [], ◌∷◌, length, get_or, set, refl, ap, ◌∙◌, arith, length-set, get_or-set_other, get_or-set_same, inl, inr}
+use Rattle.std.proofs.lemmas.Bool.{cond_both, eq-eqb, ne_eqb, lt-ltb, le-ltb, cases_eq, cases_lt}
 use Rattle.dcel.specs.Layout.{Size, Table, edge_next, edge_prev, edge_face, face_edge, place, rows, total}
 use Rattle.dcel.specs.Pairs.{Pairs, changed, reversed, All}
 use Rattle.dcel.specs.Patch.{Triangle, triangle_links, triangle_sides, triangle_edges}
@@ -11,7 +10,7 @@ use Rattle.dcel.proofs.Places.{OtherTable, same_place, place_inside, places_apar
 module _ (s : Size) where
   pub cell_same : (k : Table) (m : List ℕ) (i v j : ℕ) → total s ≤ length m → i < rows s k → cell s k (put s k m i v) j ≡ cond (eqb j i) v (cell s k m j)
   unfolding cell put
-  cell_same k m i v j z h = elim (dec_lt j (rows s k)) [ yes l ↦ elim (ℕ_discrete j i) [ yes q ↦ here q l | no q ↦ there q l ] | no l ↦ past (omega arith) ]
+  cell_same k m i v j z h = elim (cases_lt j (rows s k)) [ inl l ↦ elim (cases_eq j i) [ inl q ↦ here q l | inr q ↦ there q l ] | inr l ↦ past (omega arith) ]
     where
       here : j ≡ i → j < rows s k → cond (ltb j (rows s k)) (get_or (cond (ltb i (rows s k)) (set m (place s k i) v) m) (place s k j) 0) 0 ≡ cond (eqb j i) v (cond (ltb j (rows s k)) (get_or m (place s k j) 0) 0)
       here q l = rw (lt-ltb i (rows s k) h, lt-ltb j (rows s k) l, eq-eqb j i q)
@@ -25,7 +24,7 @@ module _ (s : Size) where
 
   pub cell_other : (k l : Table) (m : List ℕ) (i v j : ℕ) → OtherTable k l → cell s k (put s l m i v) j ≡ cell s k m j
   unfolding cell put
-  cell_other k l m i v j o = elim (dec_lt i (rows s l)) [ yes h ↦ elim (dec_lt j (rows s k)) [ yes b ↦ within h b | no b ↦ past (omega arith) ] | no h ↦ nothing (omega arith) ]
+  cell_other k l m i v j o = elim (cases_lt i (rows s l)) [ inl h ↦ elim (cases_lt j (rows s k)) [ inl b ↦ within h b | inr b ↦ past (omega arith) ] | inr h ↦ nothing (omega arith) ]
     where
       within : i < rows s l → j < rows s k → cond (ltb j (rows s k)) (get_or (cond (ltb i (rows s l)) (set m (place s l i) v) m) (place s k j) 0) 0 ≡ cond (ltb j (rows s k)) (get_or m (place s k j) 0) 0
       within h b = rw (lt-ltb i (rows s l) h, lt-ltb j (rows s k) b) (get_or-set_other m (place s l i) (place s k j) v 0 (places_apart s k l j i o b h))
@@ -38,11 +37,7 @@ module _ (s : Size) where
 
   pub length_put : (k : Table) (m : List ℕ) (i v : ℕ) → length (put s k m i v) ≡ length m
   unfolding put
-  length_put k m i v = by (ltb i (rows s k))
-    where
-      by : (b : Bool) → length (cond b (set m (place s k i) v) m) ≡ length m
-      by true = length-set m (place s k i) v
-      by false = refl
+  length_put k m i v = cond_both (ltb i (rows s k)) (set m (place s k i) v) m (λ n. length n ≡ length m) (λ _. length-set m (place s k i) v) (λ _. refl)
 
   -- lists of writes to one table
   pub length_put_all : (k : Table) (ps : Pairs) (m : List ℕ) → length (put_all s k ps m) ≡ length m

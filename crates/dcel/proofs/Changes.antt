@@ -1,7 +1,6 @@
 -- Functions changed at a list of places: what they are there, and elsewhere.
-use Rattle.std.proofs.Common.{◌≡◌, ℕ, zero, suc, ◌+◌, ◌<◌, ◌≤◌, ◌⊎◌, [], ◌∷◌, sym, refl, subst, inl, inr, arith}
-use native.Mathlib.Decide.{ℕ_discrete}
-use Rattle.std.proofs.lemmas.Bool.{eq-eqb, ne_eqb}
+use Rattle.std.proofs.Common.{◌≡◌, ℕ, ◌⊎◌, [], ◌∷◌, sym, refl, subst, inl, inr, ⊎_elim}
+use Rattle.std.proofs.lemmas.Bool.{eq-eqb, ne_eqb, cases_eq}
 use Rattle.dcel.specs.Pairs.{Pairs, changed, reversed, All, Source, Target, Elsewhere, Apart}
 
 -- a fact of each pair, at a place or at a value of the list
@@ -27,16 +26,16 @@ each P Q (p ∷ ps) f h = (f p.0 p.1 h.0, each P Q ps f h.1)
 -- whether a is a place, or a value, is decided
 pub source? : (a : ℕ) (ps : Pairs) → Source a ps ⊎ (Source a ps → ⊥)
 source? a [] = inr (λ k. k)
-source? a (p ∷ ps) = elim (ℕ_discrete a p.0) [
-  | yes e ↦ inl (inl e)
-  | no n ↦ elim (source? a ps) [ inl k ↦ inl (inr k) | inr f ↦ inr (λ k. elim k [ inl e ↦ n e | inr k ↦ f k ]) ]
+source? a (p ∷ ps) = elim (cases_eq a p.0) [
+  | inl e ↦ inl (inl e)
+  | inr n ↦ elim (source? a ps) [ inl k ↦ inl (inr k) | inr f ↦ inr (⊎_elim n f) ]
 ]
 
 pub target? : (a : ℕ) (ps : Pairs) → Target a ps ⊎ (Target a ps → ⊥)
 target? a [] = inr (λ k. k)
-target? a (p ∷ ps) = elim (ℕ_discrete a p.1) [
-  | yes e ↦ inl (inl e)
-  | no n ↦ elim (target? a ps) [ inl k ↦ inl (inr k) | inr f ↦ inr (λ k. elim k [ inl e ↦ n e | inr k ↦ f k ]) ]
+target? a (p ∷ ps) = elim (cases_eq a p.1) [
+  | inl e ↦ inl (inl e)
+  | inr n ↦ elim (target? a ps) [ inl k ↦ inl (inr k) | inr f ↦ inr (⊎_elim n f) ]
 ]
 
 pub elsewhere : (ps : Pairs) (x : ℕ) → Elsewhere x ps → Source x ps → ⊥
@@ -49,37 +48,6 @@ pub among_source : (x a b c : ℕ) (ps : Pairs) → (x ≡ a) ⊎ ((x ≡ b) ⊎
 among_source x a b c ps (inl q) f g h = subst (λ y. Source y ps) (sym q) f
 among_source x a b c ps (inr (inl q)) f g h = subst (λ y. Source y ps) (sym q) g
 among_source x a b c ps (inr (inr q)) f g h = subst (λ y. Source y ps) (sym q) h
-
--- a place, or a value, by its number in the list
-abbrev pub SourceAt : ℕ → Pairs → ℕ → Type 0
-SourceAt i [] x = ⊥
-SourceAt zero (p ∷ ps) x = x ≡ p.0
-SourceAt (suc i) (p ∷ ps) x = SourceAt i ps x
-
-pub source_at : (i : ℕ) (ps : Pairs) (x : ℕ) → SourceAt i ps x → Source x ps
-source_at i [] x h = h
-source_at zero (p ∷ ps) x h = inl h
-source_at (suc i) (p ∷ ps) x h = inr (source_at i ps x h)
-
-abbrev pub TargetAt : ℕ → Pairs → ℕ → Type 0
-TargetAt i [] x = ⊥
-TargetAt zero (p ∷ ps) x = x ≡ p.1
-TargetAt (suc i) (p ∷ ps) x = TargetAt i ps x
-
-pub target_at : (i : ℕ) (ps : Pairs) (x : ℕ) → TargetAt i ps x → Target x ps
-target_at i [] x h = h
-target_at zero (p ∷ ps) x h = inl h
-target_at (suc i) (p ∷ ps) x h = inr (target_at i ps x h)
-
--- a number past the count is not below it
-pub beyond : {A : Type 0} (z k : ℕ) → z + k < z → A
-beyond z k h = absurd (omega arith)
-
--- a place below all places of the list is none of them
-pub below_places : (ps : Pairs) (z x : ℕ) → All (λ k v. z ≤ k) ps → x < z → Source x ps → ⊥
-below_places [] z x h l k = k
-below_places (p ∷ ps) z x h l (inl q) = omega (arith, h.0)
-below_places (p ∷ ps) z x h l (inr k) = below_places ps z x h.1 l k
 
 -- off the places nothing is changed; at the places, if these are apart, the values stand
 pub changed_off : (ps : Pairs) (f : ℕ → ℕ) (j : ℕ) → (Source j ps → ⊥) → changed ps f j ≡ f j

@@ -1,12 +1,15 @@
 -- How a patch changes the number of outer half edges.
-use Rattle.std.proofs.Common.{◌≡◌, ℕ, zero, suc, ◌+◌, ◌<◌, ◌≢◌, [], ◌∷◌, refl, ap, ◌∙◌, add-one, arith}
-use native.Mathlib.Decide.{ℕ_discrete}
-use Rattle.std.proofs.lemmas.Bool.{eq-eqb, ne_eqb}
+use Rattle.std.proofs.Common.{◌≡◌, ℕ, zero, suc, ◌+◌, ◌<◌, ◌≤◌, ◌≢◌, [], ◌∷◌, refl, ap, ◌∙◌, add-one, arith, inl, inr}
+use Rattle.std.proofs.lemmas.Bool.{eq-eqb, ne_eqb, cases_eq}
+use Rattle.exact.specs.Sums.{sum}
+use Rattle.exact.proofs.Sums.{sum_one}
 use Rattle.dcel.specs.Pairs.{Pairs, changed, All, Apart}
 use Rattle.dcel.specs.Map.{Map}
 use Rattle.dcel.specs.Mesh.{zero_bit, zero_count, Counts}
 use Rattle.dcel.specs.Patch.{Patch, patched}
 use Rattle.dcel.proofs.Changes.{changed_off, elsewhere}
+use Rattle.dcel.proofs.Neighbours.{InTriangle}
+use Rattle.dcel.proofs.SumChanges.{one_change, sum_small}
 
 -- over the places of a list: zeros that were, and zeros that come
 abbrev pub zeros_before : (ℕ → ℕ) → Pairs → ℕ
@@ -28,21 +31,24 @@ zero_bit_positive v h = rw (ne_eqb v 0 h)
 pub zero_bit_is : (v : ℕ) → v ≡ 0 → zero_bit v ≡ 1
 zero_bit_is v q = ap zero_bit q ∙ zero_bit_zero
 
-zero_count_same : (f g : ℕ → ℕ) (n : ℕ) → ((j : ℕ) → j < n → g j ≡ f j) → zero_count g n ≡ zero_count f n
-unfolding zero_count
-zero_count_same f g zero h = refl
-zero_count_same f g (suc n) h =
-    let a : zero_bit (g n) ≡ zero_bit (f n) = ap zero_bit (h n (omega arith)) in
-    let b = zero_count_same f g n (λ j l. h j (omega arith)) in
-    omega arith
+-- no side of an inner face is outer
+pub inner_sides : {m : Map} {e : ℕ} → InTriangle m e → m.face e ≢ 0 → (zero_bit (m.face e) ≡ 0) × (zero_bit (m.face (m.next e)) ≡ 0) × (zero_bit (m.face (m.prev e)) ≡ 0)
+inner_sides near h = let z = zero_bit_positive _ h in (z, ap zero_bit near.face_next ∙ z, ap zero_bit near.face_prev ∙ z)
 
-one_change : (f g : ℕ → ℕ) (n k : ℕ) → k < n → ((j : ℕ) → j ≢ k → g j ≡ f j) → zero_count g n + zero_bit (f k) ≡ zero_count f n + zero_bit (g k)
-unfolding zero_count
-one_change f g zero k l h = absurd (omega arith)
-one_change f g (suc n) k l h = elim (ℕ_discrete n k) [
-  | yes q ↦ (let a : zero_bit (f n) ≡ zero_bit (f k) = ap (λ x. zero_bit (f x)) q in let b : zero_bit (g n) ≡ zero_bit (g k) = ap (λ x. zero_bit (g x)) q in let c = zero_count_same f g n (λ j i. h j (omega arith)) in omega arith)
-  | no q ↦ (let a : zero_bit (g n) ≡ zero_bit (f n) = ap zero_bit (h n q) in let b = one_change f g n k (omega arith) h in omega arith)
-]
+zero_bit_one : (v : ℕ) → zero_bit v ≤ 1
+zero_bit_one v = elim (cases_eq v 0) [ inl q ↦ omega (arith, zero_bit_is v q) | inr q ↦ omega (arith, zero_bit_positive v q) ]
+
+-- the zeros are a sum
+zero_count_is : (f : ℕ → ℕ) (n : ℕ) → zero_count f n ≡ sum (λ i. zero_bit (f i)) n
+unfolding zero_count sum
+zero_count_is f zero = refl
+zero_count_is f (suc n) = ap (λ k. zero_bit (f n) + k) (zero_count_is f n)
+
+pub zero_count_most : (f : ℕ → ℕ) (n : ℕ) → zero_count f n ≤ n
+zero_count_most f n = omega (arith, zero_count_is f n, sum_small (λ i. zero_bit (f i)) 1 n (λ i _. zero_bit_one (f i)))
+
+pub zero_count_some : (f : ℕ → ℕ) (n k : ℕ) → k < n → f k ≡ 0 → 1 ≤ zero_count f n
+zero_count_some f n k l q = omega (arith, zero_count_is f n, sum_one (λ i. zero_bit (f i)) n k l, zero_bit_is (f k) q)
 
 -- what a list of changes does to the number of zeros
 pub changes : (ps : Pairs) (f : ℕ → ℕ) (n : ℕ) → Apart ps → All (λ k v. k < n) ps → zero_count (changed ps f) n + zeros_before f ps ≡ zero_count f n + zeros_after ps
@@ -50,10 +56,10 @@ unfolding changed
 changes [] f n d l = ap (λ x. x + 0) refl
 changes (p ∷ ps) f n d l =
     let b = changes ps f n d.1 l.1 in
-    let c = one_change (changed ps f) (changed (p ∷ ps) f) n p.0 l.0 (λ j q. rw (ne_eqb j p.0 q)) in
+    let c = one_change (λ i. zero_bit (changed ps f i)) (λ i. zero_bit (changed (p ∷ ps) f i)) n p.0 l.0 (λ j _ q. ap zero_bit (rw (ne_eqb j p.0 q))) in
     let e : zero_bit (changed (p ∷ ps) f p.0) ≡ zero_bit p.1 = ap zero_bit (rw (eq-eqb p.0 p.0 refl)) in
     let g : zero_bit (changed ps f p.0) ≡ zero_bit (f p.0) = ap zero_bit (changed_off ps f p.0 (elsewhere ps p.0 d.0)) in
-    omega arith
+    omega (arith, zero_count_is (changed ps f) n, zero_count_is (changed (p ∷ ps) f) n)
 
 zero_count_one : (f : ℕ → ℕ) (e : ℕ) → zero_count f (e + 1) ≡ zero_bit (f e) + zero_count f e
 unfolding zero_count

@@ -1,11 +1,11 @@
 -- An ear closed makes a mesh of a mesh.
-use Rattle.std.proofs.Common.{◌≡◌, ℕ, ◌+◌, ◌<◌, ◌≢◌, [], ◌∷◌, sym, refl, ap, ◌∙◌, inl, inr, arith}
+use Rattle.std.proofs.Common.{◌≡◌, ℕ, ◌+◌, ◌<◌, ◌≢◌, [], sym, refl, ap, ◌∙◌, inl, inr, arith}
 use Rattle.dcel.specs.Pairs.{Apart, changed}
 use Rattle.dcel.specs.Map.{Map, twin}
 use Rattle.dcel.specs.Mesh.{Sound, Counts, Mesh, zero_bit}
 use Rattle.dcel.specs.Patch.{Patch, patched}
 use Rattle.dcel.specs.Surgery.{Ear, ear_patch}
-use Rattle.dcel.proofs.Changes.{below_places}
+use Rattle.dcel.proofs.Changes.{elsewhere}
 use Rattle.dcel.proofs.Counting.{zero_bit_zero, zero_bit_positive, zero_bit_is, changes, zero_count_two}
 use Rattle.dcel.proofs.Fits.{IsPatched, Distinct, Relinks, Fits, RoundFits}
 use Rattle.dcel.proofs.PatchRound.{one_turn, two_turns}
@@ -71,10 +71,10 @@ module _ (m : Map) (M : Mesh m) (e : ℕ) (may : Ear m e) where
   distinct = let near = here in let far = there in let l = long in let a = after_e in let b = after_vw in record { tails = tails_apart; heads = omega arith; sides = omega arith; origins = omega arith; edges = omega arith; outs = omega arith }
 
   origin_same : (n : Map) → IsPatched m n p → (x : ℕ) → x < m.half_edges → n.origin x ≡ m.origin x
-  origin_same n d x h = d.origin_off x (below_places p.origins m.half_edges x (omega arith) h)
+  origin_same n d x h = d.origin_off x (elsewhere p.origins x (omega arith))
 
   face_same : (n : Map) → IsPatched m n p → (x : ℕ) → x < m.half_edges → e ≢ x → vw ≢ x → n.face x ≡ m.face x
-  face_same n d x h o a = d.face_off x (λ k. elim k [ inl q ↦ o (sym q) | inr k ↦ elim k [ inl q ↦ a (sym q) | inr k ↦ below_places ((wu, m.faces) ∷ (uw, 0) ∷ []) m.half_edges x (omega arith) h k ] ])
+  face_same n d x h o a = d.face_off x (elsewhere p.sides x (omega arith))
 
   -- what loses its partner gets another
   pub relinks : Relinks m p

@@ -2,16 +2,16 @@
 use Rattle.std.proofs.Common.{◌≡◌, ℕ, ◌<◌, ◌≢◌, [], ◌∷◌, sym, refl, ap, ◌∙◌, subst, inl, inr, arith}
 use Rattle.dcel.specs.Pairs.{Pairs, Source, Apart}
 use Rattle.dcel.specs.Map.{Map, twin}
-use Rattle.dcel.specs.Mesh.{Sound, Counts, Mesh, zero_bit}
+use Rattle.dcel.specs.Mesh.{Sound, Counts, Mesh}
 use Rattle.dcel.specs.Patch.{Patch, patched}
 use Rattle.dcel.specs.Surgery.{Flippable, flip_patch}
-use Rattle.dcel.proofs.Changes.{changed_at, changed_off, among_source}
-use Rattle.dcel.proofs.Counting.{zero_bit_positive, changes}
-use Rattle.dcel.proofs.Fits.{IsPatched, Distinct, no_heads, heads_of_cycle, Relinks, Fits, Reach, stand_in, RoundFits}
-use Rattle.dcel.proofs.PatchRound.{reach_self, reach_then, reach_after, reach_from}
+use Rattle.dcel.proofs.Changes.{changed_at, changed_off, among_source, elsewhere}
+use Rattle.dcel.proofs.Counting.{changes, inner_sides}
+use Rattle.dcel.proofs.Fits.{IsPatched, Distinct, Relinks, Fits, Reach, stand_in, RoundFits}
+use Rattle.dcel.proofs.PatchRound.{reach_self, reach_then, reach_from, one_turn}
 use Rattle.dcel.proofs.Neighbours.{InTriangle, in_triangle, two_faces}
 use Rattle.dcel.proofs.Surgeries.{Surgery}
-use Rattle.dcel.proofs.Twins.{twin_twin, twin_ne}
+use Rattle.dcel.proofs.Twins.{twin_twin, twin_apart}
 
 module _ (m : Map) (M : Mesh m) (e : ℕ) (may : Flippable m e) where
   abbrev S : Sound m
@@ -46,21 +46,21 @@ module _ (m : Map) (M : Mesh m) (e : ℕ) (may : Flippable m e) where
   tails_apart = let near = here in let far = across in let tf = two_faces m S e may.in_e may.left in grind arith
 
   pub distinct : Distinct p
-  distinct = record {
-    tails = tails_apart;
-    sides = tails_apart;
-    heads = (heads_of_cycle _ _ _ _ tails_apart (heads_of_cycle _ _ _ _ tails_apart.1.1.1 no_heads)).apart;
-    origins = ((λ q. twin_ne e (sym q), tt), (tt, tt));
+  distinct = let k = tails_apart in record {
+    tails = k;
+    sides = k;
+    heads = omega arith;
+    origins = omega arith;
     edges = ((λ q. two_faces m S e may.in_e may.left (sym q), tt), (tt, tt));
     outs = ((S.no_loop e may.in_e, tt), (tt, tt));
   }
 
   -- origins off e and ba, and off their twins
   pub origin_same : (n : Map) → IsPatched m n p → (x : ℕ) → x ≢ e → x ≢ ba → n.origin x ≡ m.origin x
-  origin_same n d x p q = d.origin_off x (λ k. elim k [ inl r ↦ p r | inr k ↦ elim k [ inl r ↦ q r | inr k ↦ k ] ])
+  origin_same n d x a b = d.origin_off x (elsewhere p.origins x (a, (b, tt)))
 
-  origin_same_twin : (n : Map) → IsPatched m n p → (x : ℕ) → e ≢ x → ba ≢ x → n.origin (twin x) ≡ m.origin (twin x)
-  origin_same_twin n d x p q = origin_same n d (twin x) (λ r. q (ap twin (sym r) ∙ twin_twin x)) (λ r. p (sym (twin_twin e) ∙ ap twin (sym r) ∙ twin_twin x))
+  origin_same_twin : (n : Map) → IsPatched m n p → (x : ℕ) → x ≢ e → x ≢ ba → n.origin (twin x) ≡ m.origin (twin x)
+  origin_same_twin n d x a b = origin_same n d (twin x) (λ r. b (sym (twin_twin x) ∙ ap twin r)) (twin_apart x e a)
 
   -- what loses its partner gets another
   pub relinks : Relinks m p
@@ -127,11 +127,11 @@ module _ (m : Map) (M : Mesh m) (e : ℕ) (may : Flippable m e) where
   abbrev moved : Pairs
   moved = (e, ad) ∷ (ba, bc) ∷ []
 
-  itself : (x : ℕ) → e ≢ x → ba ≢ x → stand_in moved x ≡ x
-  itself x p q = changed_off moved (λ y. y) x (λ k. elim k [ inl r ↦ p (sym r) | inr k ↦ elim k [ inl r ↦ q (sym r) | inr k ↦ k ] ])
+  itself : (x : ℕ) → x ≢ e → x ≢ ba → stand_in moved x ≡ x
+  itself x a b = changed_off moved (λ y. y) x (elsewhere moved x (omega arith))
 
-  itself_twin : (x : ℕ) → e ≢ x → ba ≢ x → stand_in moved (twin x) ≡ twin x
-  itself_twin x p q = itself (twin x) (λ r. q (ap twin r ∙ twin_twin x)) (λ r. p (sym (twin_twin e) ∙ ap twin r ∙ twin_twin x))
+  itself_twin : (x : ℕ) → x ≢ e → x ≢ ba → stand_in moved (twin x) ≡ twin x
+  itself_twin x a b = itself (twin x) (λ r. b (sym (twin_twin x) ∙ ap twin r)) (twin_apart x e a)
 
   -- turning round: r- says where one turn leads
   round_fits : (n : Map) → IsPatched m n p → RoundFits m n p
@@ -156,10 +156,10 @@ module _ (m : Map) (M : Mesh m) (e : ℕ) (may : Flippable m e) where
       let p_db : n.prev db ≡ ba = d.prev_at.1.1.1.0 in
       let p_bc : n.prev bc ≡ db = d.prev_at.1.1.1.1.0 in
       let p_t : n.prev ba ≡ bc = d.prev_at.1.1.1.1.1.0 in
-      let go_t : Reach n ba (twin bc) = reach_after n _ _ _ (ap twin p_t) (reach_self n _ _ refl) in
-      let go_e : Reach n e (twin ad) = reach_after n _ _ _ (ap twin p_e) (reach_self n _ _ refl) in
-      let go_ca : Reach n ca ba = reach_after n _ _ _ (ap twin p_ca) (reach_self n _ _ refl) in
-      let go_db : Reach n db e = reach_after n _ _ _ (ap twin p_db ∙ back) (reach_self n _ _ refl) in
+      let go_t : Reach n ba (twin bc) = one_turn n _ _ (ap twin p_t) in
+      let go_e : Reach n e (twin ad) = one_turn n _ _ (ap twin p_e) in
+      let go_ca : Reach n ca ba = one_turn n _ _ (ap twin p_ca) in
+      let go_db : Reach n db e = one_turn n _ _ (ap twin p_db ∙ back) in
       record {
         stands = moved;
         stand_fits = search (inl, inr, arith) depth 12;
@@ -168,12 +168,12 @@ module _ (m : Map) (M : Mesh m) (e : ℕ) (may : Flippable m e) where
           (
             λ _. reach_self n _ _ (st_ad ∙ sym (ap (λ x. stand_in moved (twin x)) far.prev_next ∙ ap (stand_in moved) back ∙ st_e)),
             (
-              λ _. reach_from n _ _ _ _ st_e tw_ca (reach_after n ad _ _ (ap twin p_ad) (reach_self n _ _ refl)),
+              λ _. reach_from n _ _ _ _ st_e tw_ca (one_turn n ad _ (ap twin p_ad)),
               (
                 λ _. reach_from n _ _ _ _ st_db (ap (λ x. stand_in moved (twin x)) far.prev_prev ∙ tw_ad) (reach_then n _ e _ go_db go_e),
                 (
                   λ _. reach_self n _ _ (st_bc ∙ sym (ap (λ x. stand_in moved (twin x)) near.prev_next ∙ st_t)),
-                  (λ _. reach_from n _ _ _ _ st_t tw_db (reach_after n bc _ _ (ap twin p_bc) (reach_self n _ _ refl)), tt),
+                  (λ _. reach_from n _ _ _ _ st_t tw_db (one_turn n bc _ (ap twin p_bc)), tt),
                 ),
               ),
             ),
@@ -190,12 +190,8 @@ module _ (m : Map) (M : Mesh m) (e : ℕ) (may : Flippable m e) where
       let near = here in
       let far = across in
       let h = changes p.sides m.face m.half_edges distinct.sides (omega arith) in
-      let a = zero_bit_positive (m.face e) may.left in
-      let b = zero_bit_positive (m.face ba) may.right in
-      let a1 : zero_bit (m.face bc) ≡ zero_bit (m.face e) = ap zero_bit near.face_next in
-      let a2 : zero_bit (m.face ca) ≡ zero_bit (m.face e) = ap zero_bit near.face_prev in
-      let b1 : zero_bit (m.face ad) ≡ zero_bit (m.face ba) = ap zero_bit far.face_next in
-      let b2 : zero_bit (m.face db) ≡ zero_bit (m.face ba) = ap zero_bit far.face_prev in
+      let a = inner_sides near may.left in
+      let b = inner_sides far may.right in
       let c = M.counts in
       record { half_edges_are = omega (arith, c.half_edges_are); faces_are = omega (arith, c.faces_are) }
 

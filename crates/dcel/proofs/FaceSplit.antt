@@ -2,12 +2,12 @@
 use Rattle.std.proofs.Common.{◌≡◌, ℕ, ◌+◌, ◌<◌, ◌≢◌, [], sym, refl, ap, ◌∙◌, subst, inl, inr, arith}
 use Rattle.dcel.specs.Pairs.{Source, Apart, changed}
 use Rattle.dcel.specs.Map.{Map, twin}
-use Rattle.dcel.specs.Mesh.{Sound, Counts, Mesh, zero_bit}
+use Rattle.dcel.specs.Mesh.{Sound, Counts, Mesh}
 use Rattle.dcel.specs.Patch.{Patch, patched}
 use Rattle.dcel.specs.Surgery.{Inner, split_face_patch}
-use Rattle.dcel.proofs.Changes.{below_places, among_source, source_at, target_at, beyond}
-use Rattle.dcel.proofs.Counting.{zero_bit_positive, changes, zero_count_six}
-use Rattle.dcel.proofs.Fits.{IsPatched, Distinct, no_heads, heads_of_cycle, Relinks, Fits, Reach, RoundFits}
+use Rattle.dcel.proofs.Changes.{among_source, elsewhere}
+use Rattle.dcel.proofs.Counting.{zero_bit_positive, changes, zero_count_six, inner_sides}
+use Rattle.dcel.proofs.Fits.{IsPatched, Distinct, Relinks, Fits, Reach, RoundFits}
 use Rattle.dcel.proofs.PatchRound.{reach_self, one_turn, two_turns}
 use Rattle.dcel.proofs.Neighbours.{InTriangle, in_triangle, new_pairs}
 use Rattle.dcel.proofs.Surgeries.{Surgery}
@@ -56,29 +56,29 @@ module _ (m : Map) (M : Mesh m) (e : ℕ) (may : Inner m e) where
 
   -- no place is changed twice
   tails_apart : Apart p.links
-  tails_apart = let near = here in (omega arith, (omega arith, (omega arith, omega arith)))
+  tails_apart = let near = here in omega arith
 
   pub distinct : Distinct p
-  distinct = let near = here in record {
-    tails = tails_apart;
-    sides = tails_apart;
-    heads = (heads_of_cycle _ _ _ _ tails_apart (heads_of_cycle _ _ _ _ tails_apart.1.1.1 (heads_of_cycle _ _ _ _ tails_apart.1.1.1.1.1.1 no_heads))).apart;
+  distinct = let near = here in let k = tails_apart in record {
+    tails = k;
+    sides = k;
+    heads = omega arith;
     origins = omega arith;
     edges = omega arith;
     outs = omega arith;
   }
 
   origin_same : (n : Map) → IsPatched m n p → (x : ℕ) → x < m.half_edges → n.origin x ≡ m.origin x
-  origin_same n d x h = d.origin_off x (below_places p.origins m.half_edges x (omega arith) h)
+  origin_same n d x h = d.origin_off x (elsewhere p.origins x (omega arith))
 
   -- what loses its partner gets another
   pub relinks : Relinks m p
   relinks =
       let near = here in
       record {
-        tails = (λ _. target_at 5 p.links bc refl, (λ h. beyond m.half_edges 2 h, (λ h. beyond m.half_edges 1 h, (λ _. target_at 8 p.links (m.next bc) near.next_next, (λ h. beyond m.half_edges 4 h, (λ h. beyond m.half_edges 3 h, (λ _. target_at 2 p.links (m.next ca) near.next_prev, (λ h. absurd (omega arith), (λ h. beyond m.half_edges 5 h, tt)))))))));
-        heads = (λ h. beyond m.half_edges 2 h, (λ h. beyond m.half_edges 1 h, (λ _. source_at 6 p.links ca refl, (λ h. beyond m.half_edges 4 h, (λ h. beyond m.half_edges 3 h, (λ _. source_at 0 p.links (m.prev bc) near.prev_next, (λ h. absurd (omega arith), (λ h. beyond m.half_edges 5 h, (λ _. source_at 3 p.links (m.prev ca) near.prev_prev, tt)))))))));
-        whole = (λ _ _. source_at 6 p.links ca refl, (λ h _. beyond m.half_edges 2 h, (λ h _. beyond m.half_edges 1 h, (λ _ _. source_at 0 p.links (m.prev bc) near.prev_next, (λ h _. beyond m.half_edges 4 h, (λ h _. beyond m.half_edges 3 h, (λ _ _. source_at 3 p.links (m.prev ca) near.prev_prev, (λ h _. absurd (omega arith), (λ h _. beyond m.half_edges 5 h, tt)))))))));
+        tails = search (inl, inr, arith) depth 15;
+        heads = search (inl, inr, arith) depth 15;
+        whole = search (inl, inr, arith) depth 15;
       }
 
   -- at the changed places; o- and w- are origins that stay, of half edges and of their twins, f- are faces
@@ -117,7 +117,7 @@ module _ (m : Map) (M : Mesh m) (e : ℕ) (may : Inner m e) where
         origin_fits = search (inl, inr, arith) depth 12;
         loops = grind arith;
         side_fits = search (inl, inr, arith) depth 12;
-        edge_fits = ((omega arith, d.face_at.0, λ _ _. edge_e), ((omega arith, d.face_at.1.1.1.0, λ _ q. absurd (omega arith)), ((omega arith, d.face_at.1.1.1.1.1.1.0, λ _ q. absurd (omega arith)), tt)));
+        edge_fits = search (inl, inr, arith) depth 15;
         out_fits = grind arith;
       }
 
@@ -197,9 +197,7 @@ module _ (m : Map) (M : Mesh m) (e : ℕ) (may : Inner m e) where
       let near = here in
       let h = changes p.sides m.face (m.half_edges + 6) distinct.sides (omega arith) in
       let z = zero_count_six m.face m.half_edges in
-      let a = zero_bit_positive (m.face e) inner in
-      let a1 : zero_bit (m.face bc) ≡ zero_bit (m.face e) = ap zero_bit near.face_next in
-      let a2 : zero_bit (m.face ca) ≡ zero_bit (m.face e) = ap zero_bit near.face_prev in
+      let a = inner_sides near inner in
       let f0 = zero_bit_positive m.faces (omega arith) in
       let f1 = zero_bit_positive (m.faces + 1) (omega arith) in
       let c = M.counts in

@@ -1,6 +1,6 @@
 -- Sums over the numbers below n regrouped: the first and the rest, two by two, by the fibres of a function; and sums of at most one.
-use Rattle.std.proofs.Common.{◌≡◌, ℕ, zero, suc, ◌+◌, ◌<◌, ◌≤◌, ◌≢◌, sym, refl, ap, ◌∙◌, ap₂, inl, inr, arith}
-use native.Mathlib.Decide.{ℕ_discrete, dec_lt}
+use Rattle.std.proofs.Common.{◌≡◌, ℕ, zero, suc, ◌+◌, ◌<◌, ◌≤◌, ◌≢◌, ◌⊎◌, sym, refl, ap, ◌∙◌, ap₂, inl, inr, arith}
+use Rattle.std.proofs.lemmas.Bool.{cases_eq, cases_lt}
 use Rattle.exact.specs.Sums.{sum}
 use Rattle.exact.proofs.Sums.{sum_same, sum_plus, sum_zero, sum_swap, sum_one, only, only_same, only_other, sum_only}
 use Rattle.dcel.specs.Mesh.{Among}
@@ -19,10 +19,10 @@ sum_pairs f (suc k) =
     ap (sum f) two ∙ omega (arith, sum_pairs f k)
 
 pub only_some : (i j c : ℕ) → 1 ≤ only i j c → (i ≡ j) × (1 ≤ c)
-only_some i j c l = elim (ℕ_discrete i j) [ yes e ↦ (e, omega (arith, only_same i j c e)) | no f ↦ absurd (omega (arith, only_other i j c f)) ]
+only_some i j c l = elim (cases_eq i j) [ inl e ↦ (e, omega (arith, only_same i j c e)) | inr f ↦ absurd (omega (arith, only_other i j c f)) ]
 
 pub only_≤ : (i j c : ℕ) → only i j c ≤ c
-only_≤ i j c = elim (ℕ_discrete i j) [ yes e ↦ omega (arith, only_same i j c e) | no f ↦ omega (arith, only_other i j c f) ]
+only_≤ i j c = elim (cases_eq i j) [ inl e ↦ omega (arith, only_same i j c e) | inr f ↦ omega (arith, only_other i j c f) ]
 
 -- ---- g over those below n that f puts at i
 unfoldable pub fibre : (ℕ → ℕ) → ℕ → (ℕ → ℕ) → ℕ → ℕ
@@ -37,7 +37,7 @@ pub fibre_three : (f : ℕ → ℕ) (n : ℕ) (g : ℕ → ℕ) (i a b c : ℕ) 
     ((e : ℕ) → e < n → f e ≡ i → Among e a b c) → fibre f n g i ≡ g a + g b + g c
 unfolding fibre
 fibre_three f n g i a b c la lb lc fa fb fc ab bc ca all =
-    sum_same (λ e. only i (f e) (g e)) (λ e. only e a (g a) + only e b (g b) + only e c (g c)) n (λ e l. point e l (ℕ_discrete e a) (ℕ_discrete e b) (ℕ_discrete e c))
+    sum_same (λ e. only i (f e) (g e)) (λ e. only e a (g a) + only e b (g b) + only e c (g c)) n (λ e l. point e l (cases_eq e a) (cases_eq e b) (cases_eq e c))
     ∙ sum_plus (λ e. only e a (g a) + only e b (g b)) (λ e. only e c (g c)) n
     ∙ ap₂ ◌+◌ (sum_plus (λ e. only e a (g a)) (λ e. only e b (g b)) n ∙ ap₂ ◌+◌ (sum_only a (g a) n la) (sum_only b (g b) n lb)) (sum_only c (g c) n lc)
   where
@@ -49,50 +49,43 @@ fibre_three f n g i a b c la lb lc fa fb fc ab bc ca all =
     none e x y z (inr (inl q)) = y q
     none e x y z (inr (inr q)) = z q
 
-    point : (e : ℕ) → e < n → Dec (e ≡ a) → Dec (e ≡ b) → Dec (e ≡ c) → only i (f e) (g e) ≡ only e a (g a) + only e b (g b) + only e c (g c)
-    point e l (yes q) y z = omega (arith, is e a q fa, only_same e a (g a) q, only_other e b (g b) (λ r. ab (sym q ∙ r)), only_other e c (g c) (λ r. ca (sym r ∙ q)))
-    point e l (no x) (yes q) z = omega (arith, is e b q fb, only_other e a (g a) x, only_same e b (g b) q, only_other e c (g c) (λ r. bc (sym q ∙ r)))
-    point e l (no x) (no y) (yes q) = omega (arith, is e c q fc, only_other e a (g a) x, only_other e b (g b) y, only_same e c (g c) q)
-    point e l (no x) (no y) (no z) = omega (arith, only_other i (f e) (g e) (λ q. none e x y z (all e l (sym q))), only_other e a (g a) x, only_other e b (g b) y, only_other e c (g c) z)
+    point : (e : ℕ) → e < n → (e ≡ a) ⊎ (e ≢ a) → (e ≡ b) ⊎ (e ≢ b) → (e ≡ c) ⊎ (e ≢ c) → only i (f e) (g e) ≡ only e a (g a) + only e b (g b) + only e c (g c)
+    point e l (inl q) y z = omega (arith, is e a q fa, only_same e a (g a) q, only_other e b (g b) (λ r. ab (sym q ∙ r)), only_other e c (g c) (λ r. ca (sym r ∙ q)))
+    point e l (inr x) (inl q) z = omega (arith, is e b q fb, only_other e a (g a) x, only_same e b (g b) q, only_other e c (g c) (λ r. bc (sym q ∙ r)))
+    point e l (inr x) (inr y) (inl q) = omega (arith, is e c q fc, only_other e a (g a) x, only_other e b (g b) y, only_same e c (g c) q)
+    point e l (inr x) (inr y) (inr z) = omega (arith, only_other i (f e) (g e) (λ q. none e x y z (all e l (sym q))), only_other e a (g a) x, only_other e b (g b) y, only_other e c (g c) z)
 
 -- ---- one term, and two
 pub some_term : (c : ℕ → ℕ) (n : ℕ) → 1 ≤ sum c n → (i : ℕ) × (i < n) × (1 ≤ c i)
 unfolding sum
 some_term c zero l = absurd (omega arith)
-some_term c (suc n) l = go (λ k. some_term c n k) (dec_lt 0 (c n))
-  where
-    go : (1 ≤ sum c n → (i : ℕ) × (i < n) × (1 ≤ c i)) → Dec (0 < c n) → (i : ℕ) × (i < suc n) × (1 ≤ c i)
-    go ih (yes k) = (n, omega arith, omega (arith, k))
-    go ih (no f) = let r = ih (omega (arith, f)) in (r.0, omega (arith, r.1), r.2)
+some_term c (suc n) l = elim (cases_lt 0 (c n)) [
+  | inl k ↦ (n, omega arith, omega (arith, k))
+  | inr f ↦ (let r = some_term c n (omega (arith, f)) in (r.0, omega (arith, r.1), r.2))
+]
 
 two_terms_≤ : (c : ℕ → ℕ) (n i j : ℕ) → i < j → j < n → c i + c j ≤ sum c n
 unfolding sum
 two_terms_≤ c zero i j l m = absurd (omega arith)
-two_terms_≤ c (suc n) i j l m = go (λ k. two_terms_≤ c n i j l k) (ℕ_discrete j n)
-  where
-    go : (j < n → c i + c j ≤ sum c n) → Dec (j ≡ n) → c i + c j ≤ c n + sum c n
-    go ih (yes e) = omega (arith, ap c e, sum_one c n i (omega arith))
-    go ih (no f) = omega (arith, ih (omega (arith, f)))
+two_terms_≤ c (suc n) i j l m = elim (cases_eq j n) [ inl e ↦ omega (arith, ap c e, sum_one c n i (omega arith)) | inr f ↦ omega (arith, two_terms_≤ c n i j l (omega (arith, f))) ]
 
 -- a sum of at most 1 has one term at most that is not 0, and the other way round
 pub one_term : (c : ℕ → ℕ) (n i j : ℕ) → sum c n ≤ 1 → i < n → j < n → 1 ≤ c i → 1 ≤ c j → i ≡ j
-one_term c n i j h li lj ci cj = elim (ℕ_discrete i j) [
-  | yes e ↦ e
-  | no f ↦ elim (dec_lt i j) [
-    | yes l ↦ absurd (omega (arith, two_terms_≤ c n i j l lj))
-    | no g ↦ absurd (omega (arith, two_terms_≤ c n j i (omega (arith, f, g)) li))
+one_term c n i j h li lj ci cj = elim (cases_eq i j) [
+  | inl e ↦ e
+  | inr f ↦ elim (cases_lt i j) [
+    | inl l ↦ absurd (omega (arith, two_terms_≤ c n i j l lj))
+    | inr g ↦ absurd (omega (arith, two_terms_≤ c n j i (omega (arith, f, g)) li))
   ]
 ]
 
 pub sum_≤1 : (c : ℕ → ℕ) (n : ℕ) → ((i : ℕ) → i < n → c i ≤ 1) → ((i j : ℕ) → i < n → j < n → 1 ≤ c i → 1 ≤ c j → i ≡ j) → sum c n ≤ 1
 unfolding sum
 sum_≤1 c zero h s = omega arith
-sum_≤1 c (suc n) h s = go (sum_≤1 c n (λ i l. h i (omega arith)) (λ i j l m. s i j (omega arith) (omega arith))) (dec_lt 0 (c n))
+sum_≤1 c (suc n) h s = elim (cases_lt 0 (c n)) [
+  | inl k ↦ omega (arith, h n (omega arith), sum_zero c n (λ i l. none k i l))
+  | inr f ↦ omega (arith, f, sum_≤1 c n (λ i l. h i (omega arith)) (λ i j l m. s i j (omega arith) (omega arith)))
+]
   where
-    none : 0 < c n → (i : ℕ) → i < n → Dec (0 < c i) → c i ≡ 0
-    none cn i l (yes ci) = absurd (omega (arith, s i n (omega arith) (omega arith) ci cn))
-    none cn i l (no f) = omega (arith, f)
-
-    go : sum c n ≤ 1 → Dec (0 < c n) → c n + sum c n ≤ 1
-    go ih (yes cn) = omega (arith, h n (omega arith), sum_zero c n (λ i l. none cn i l (dec_lt 0 (c i))))
-    go ih (no f) = omega (arith, f)
+    none : 0 < c n → (i : ℕ) → i < n → c i ≡ 0
+    none k i l = elim (cases_lt 0 (c i)) [ inl z ↦ absurd (omega (arith, s i n (omega arith) (omega arith) z k)) | inr f ↦ omega (arith, f) ]

@@ -1,5 +1,5 @@
 -- No vertex, one vertex, and two with the pair between them: the beginning of a mesh.
-use Rattle.std.proofs.Common.{◌≡◌, ℕ, ◌+◌, ◌<◌, ◌≤◌, List, sym, refl, ap, ◌∙◌, arith}
+use Rattle.std.proofs.Common.{◌≡◌, ℕ, ◌+◌, ◌<◌, ◌≤◌, List, sym, refl, ap, ◌∙◌, arith, below_more, below_none}
 use Rattle.dcel.specs.Layout.{Size}
 use Rattle.dcel.specs.Pairs.{changed}
 use Rattle.dcel.specs.Map.{Map, twin}
@@ -9,7 +9,6 @@ use Rattle.dcel.specs.Memory.{map_of}
 use Rattle.dcel.specs.Holds.{Sites, Rewritten}
 use Rattle.dcel.specs.Start.{bare_change, pair_change, Begins, cleared, Clears, first_put, PutsFirst, second_put, PutsSecond}
 use Rattle.dcel.proofs.Counting.{zero_bit_zero}
-use Rattle.dcel.proofs.Neighbours.{new_one}
 use Rattle.dcel.proofs.Surgeries.{Room, counts_room}
 use Rattle.dcel.proofs.Applied.{InRange}
 use Rattle.dcel.proofs.NewVertex.{same_mesh}
@@ -32,7 +31,7 @@ pub record Two (m : Map) : Type 0 where
 
 -- for 0 and for 1
 pub both : (P : ℕ → Type 0) (z : ℕ) → z ≡ 2 → P 0 → P 1 → (i : ℕ) → i < z → P i
-both P z q a b i h = new_one P 0 z a (new_one P 1 z b (λ j p r. absurd (omega arith))) i (omega arith) h
+both P z q a b = rw q (below_more P 1 (below_more P 0 (below_none P) a) b)
 
 pair_sound : (m : Map) → Two m → Sound m
 unfolding twin
@@ -109,12 +108,9 @@ bare_range s k = record { tails = tt; heads = tt; sides = tt; origins = tt; edge
 bare_room : (s : Size) (k : ℕ) (m : Map) → k ≤ s.vertices → 0 < s.vertices → Room s (patched (patch_of (bare_change k)) m)
 bare_room s k m h p = record { vertex_room = h; half_edge_room = omega arith; face_room = omega arith }
 
-few : {n : ℕ} → n ≡ 1 → n ≤ 1
-few e = omega arith
-
 begins : (s : Size) (m : List ℕ) (k : ℕ) (t : Sites) (n : List ℕ) → Rewritten s m (patch_of (bare_change k)) t n → Begins s m k t n
 begins s m k t n w = record {
-  bare = record { long = w.long; vertices_are = ap (λ x. x.vertices) w.map_is; half_edges_are = ap (λ x. x.half_edges) w.map_is; faces_few = few (ap (λ x. x.faces) w.map_is) };
+  bare = record { long = w.long; vertices_are = ap (λ x. x.vertices) w.map_is; half_edges_are = ap (λ x. x.half_edges) w.map_is; faces_few = omega (arith, ap (λ x. x.faces) w.map_is) };
   wrote = w;
 }
 

@@ -1,6 +1,6 @@
 -- What a patch must meet at its own places so that the patched map is a mesh: finite conditions, a few for each place.
-use Rattle.std.proofs.Common.{◌≡◌, ℕ, ◌<◌, ◌≤◌, ◌≢◌, [], ◌∷◌, sym, refl}
-use Rattle.dcel.specs.Pairs.{Pairs, All, Source, Target, Elsewhere, Apart, changed, reversed}
+use Rattle.std.proofs.Common.{◌≡◌, ℕ, ◌<◌, ◌≤◌, ◌≢◌, refl}
+use Rattle.dcel.specs.Pairs.{Pairs, All, Source, Target, Apart, changed, reversed}
 use Rattle.dcel.specs.Map.{Map, twin}
 use Rattle.dcel.specs.Mesh.{Among, turns}
 use Rattle.dcel.specs.Patch.{Patch, patched}
@@ -33,9 +33,6 @@ pub record Distinct (p : Patch) : Type 0 where
   pub edges : Apart p.edges
   pub outs : Apart p.outs
 
-target_reversed : (a : ℕ) (ps : Pairs) → (Target a ps → ⊥) → Source a (reversed ps) → ⊥
-target_reversed a ps f k = f (source_reversed a ps k)
-
 pub is_patched : (m : Map) (p : Patch) → Distinct p → IsPatched m (patched p m) p
 is_patched m p c = record {
   vertices_is = refl;
@@ -48,25 +45,11 @@ is_patched m p c = record {
   edge_at = changed_at p.edges m.edge c.edges;
   out_at = changed_at p.outs m.out c.outs;
   next_off = changed_off p.links m.next;
-  prev_off = λ e f. changed_off (reversed p.links) m.prev e (target_reversed e p.links f);
+  prev_off = λ e f. changed_off (reversed p.links) m.prev e (λ k. f (source_reversed e p.links k));
   face_off = changed_off p.sides m.face;
   origin_off = changed_off p.origins m.origin;
   edge_off = changed_off p.edges m.edge;
   out_off = changed_off p.outs m.out;
-}
-
--- heads are apart where tails are, if the links are triangles
-pub record Heads (ps : Pairs) : Type 0 where
-  pub apart : Apart (reversed ps)
-  pub off : (x : ℕ) → Elsewhere x ps → Elsewhere x (reversed ps)
-
-pub no_heads : Heads []
-no_heads = record { apart = tt; off = λ x o. tt }
-
-pub heads_of_cycle : (a b c : ℕ) (ps : Pairs) → Apart ((a, b) ∷ (b, c) ∷ (c, a) ∷ ps) → Heads ps → Heads ((a, b) ∷ (b, c) ∷ (c, a) ∷ ps)
-heads_of_cycle a b c ps d h = record {
-  apart = ((d.1.0.0, (λ q. d.0.0 (sym q), h.off b d.1.0.1)), ((λ q. d.0.1.0 (sym q), h.off c d.1.1.0), (h.off a d.0.1.1, h.apart)));
-  off = λ x o. (o.1.0, (o.1.1.0, (o.0, h.off x o.1.1.1)));
 }
 
 -- Of the old half edges: the ends that lose their partner are the ends that get one, and of a face all three or none.

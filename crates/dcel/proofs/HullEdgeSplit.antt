@@ -2,16 +2,16 @@
 use Rattle.std.proofs.Common.{◌≡◌, ℕ, ◌+◌, ◌<◌, ◌≢◌, [], ◌∷◌, sym, refl, ap, ◌∙◌, subst, inl, inr, arith}
 use Rattle.dcel.specs.Pairs.{Pairs, Source, Apart}
 use Rattle.dcel.specs.Map.{Map, twin}
-use Rattle.dcel.specs.Mesh.{Sound, Counts, Mesh, zero_bit}
+use Rattle.dcel.specs.Mesh.{Sound, Counts, Mesh}
 use Rattle.dcel.specs.Patch.{Patch, patched}
 use Rattle.dcel.specs.EdgeSurgery.{HullEdge, split_hull_edge_patch}
-use Rattle.dcel.proofs.Changes.{changed_at, changed_off, below_places, among_source, source_at, target_at, beyond}
-use Rattle.dcel.proofs.Counting.{zero_bit_zero, zero_bit_positive, changes, zero_count_four}
+use Rattle.dcel.proofs.Changes.{changed_at, changed_off, among_source, elsewhere}
+use Rattle.dcel.proofs.Counting.{zero_bit_zero, zero_bit_positive, changes, zero_count_four, inner_sides}
 use Rattle.dcel.proofs.Fits.{IsPatched, Distinct, Relinks, Fits, Reach, stand_in, RoundFits}
 use Rattle.dcel.proofs.PatchRound.{reach_self, reach_from, one_turn, two_turns}
 use Rattle.dcel.proofs.Neighbours.{InTriangle, in_triangle, Neighbours, neighbours, new_pairs}
 use Rattle.dcel.proofs.Surgeries.{Surgery}
-use Rattle.dcel.proofs.Twins.{twin_twin, twin_below}
+use Rattle.dcel.proofs.Twins.{twin_twin, twin_below, twin_apart}
 
 module _ (m : Map) (M : Mesh m) (e : ℕ) (may : HullEdge m e) where
   abbrev S : Sound m
@@ -65,42 +65,26 @@ module _ (m : Map) (M : Mesh m) (e : ℕ) (may : HullEdge m e) where
 
   -- no place is changed twice
   tails_apart : Apart p.links
-  tails_apart = let near = here in let far = across in let s = old_apart in (omega arith, (omega arith, (omega arith, omega arith)))
+  tails_apart = let near = here in let far = across in let s = old_apart in omega arith
 
   pub distinct : Distinct p
   distinct = let near = here in let far = across in let s = old_apart in let v = S.origin_in ba far.in_e in record {
     tails = tails_apart;
-    heads = (omega arith, (omega arith, (omega arith, omega arith)));
-    sides = (omega arith, (omega arith, omega arith));
+    heads = omega arith;
+    sides = omega arith;
     origins = omega arith;
     edges = omega arith;
     outs = omega arith;
   }
 
   origin_same : (n : Map) → IsPatched m n p → (x : ℕ) → x < m.half_edges → x ≢ ba → n.origin x ≡ m.origin x
-  origin_same n d x h q = d.origin_off x (λ k. elim k [ inl r ↦ q r | inr k ↦ below_places ((pb, 0) ∷ (bp, 0) ∷ (pc, 0) ∷ (cp, 0) ∷ []) m.half_edges x (omega arith) h k ])
+  origin_same n d x h q = d.origin_off x (elsewhere p.origins x (omega arith))
 
   origin_same_twin : (n : Map) → IsPatched m n p → (x : ℕ) → x < m.half_edges → x ≢ e → n.origin (twin x) ≡ m.origin (twin x)
-  origin_same_twin n d x h q = origin_same n d (twin x) (S.twin_in x h) (λ r. q (sym (twin_twin x) ∙ ap twin r ∙ twin_twin e))
+  origin_same_twin n d x h q = origin_same n d (twin x) (S.twin_in x h) (twin_apart x e q)
 
   face_same : (n : Map) → IsPatched m n p → (x : ℕ) → x < m.half_edges → x ≢ e → x ≢ ca → x ≢ bc → n.face x ≡ m.face x
-  face_same n d x h a b c = d.face_off x (λ k. elim k [
-    | inl q ↦ a q
-    | inr k ↦ elim k [
-      | inl q ↦ omega arith
-      | inr k ↦ elim k [
-        | inl q ↦ b q
-        | inr k ↦ elim k [
-          | inl q ↦ omega arith
-          | inr k ↦ elim k [
-            | inl q ↦ c q
-            | inr k ↦
-                below_places ((cp, 0) ∷ (bp, 0) ∷ []) m.half_edges x (omega arith) h k
-          ]
-        ]
-      ]
-    ]
-  ])
+  face_same n d x h a b c = d.face_off x (elsewhere p.sides x (omega arith))
 
   -- what loses its partner gets another
   pub relinks : Relinks m p
@@ -108,9 +92,9 @@ module _ (m : Map) (M : Mesh m) (e : ℕ) (may : HullEdge m e) where
       let near = here in
       let far = across in
       record {
-        tails = (λ _. target_at 3 p.links bc refl, (λ h. beyond m.half_edges 2 h, (λ _. target_at 2 p.links (m.next ca) near.next_prev, (λ h. absurd (omega arith), (λ _. target_at 1 p.links (m.next bc) near.next_next, (λ h. beyond m.half_edges 3 h, (λ _. target_at 7 p.links (m.next db) far.next_prev, (λ h. beyond m.half_edges 1 h, tt))))))));
-        heads = (λ h. beyond m.half_edges 2 h, (λ _. source_at 4 p.links (m.prev ca) near.prev_prev, (λ _. source_at 2 p.links ca refl, (λ _. source_at 0 p.links (m.prev bc) near.prev_next, (λ h. beyond m.half_edges 3 h, (λ h. absurd (omega arith), (λ h. beyond m.half_edges 1 h, (λ _. source_at 6 p.links db refl, tt))))))));
-        whole = (λ _ _. source_at 2 p.links ca refl, (λ h _. beyond m.half_edges 2 h, (λ _ _. source_at 4 p.links (m.prev ca) near.prev_prev, (λ h _. absurd (omega arith), (λ _ _. source_at 0 p.links (m.prev bc) near.prev_next, (λ h _. beyond m.half_edges 3 h, (λ _ z. absurd (z (far.face_prev ∙ right)), (λ h _. beyond m.half_edges 1 h, tt))))))));
+        tails = search (inl, inr, arith) depth 15;
+        heads = search (inl, inr, arith) depth 15;
+        whole = search (inl, inr, arith) depth 15;
       }
 
   -- at the changed places; o- and w- are origins that stay, of half edges and of their twins, f- are faces
@@ -162,10 +146,10 @@ module _ (m : Map) (M : Mesh m) (e : ℕ) (may : HullEdge m e) where
   moved = (ba, bp) ∷ []
 
   itself : (x : ℕ) → x ≢ ba → stand_in moved x ≡ x
-  itself x q = changed_off moved (λ y. y) x (λ k. elim k [ inl r ↦ q r | inr k ↦ k ])
+  itself x q = changed_off moved (λ y. y) x (elsewhere moved x (omega arith))
 
   itself_twin : (x : ℕ) → x ≢ e → stand_in moved (twin x) ≡ twin x
-  itself_twin x q = itself (twin x) (λ r. q (sym (twin_twin x) ∙ ap twin r ∙ twin_twin e))
+  itself_twin x q = itself (twin x) (twin_apart x e q)
 
   -- turning round: r- says where one turn leads
   round_fits : (n : Map) → IsPatched m n p → RoundFits m n p
@@ -251,9 +235,7 @@ module _ (m : Map) (M : Mesh m) (e : ℕ) (may : HullEdge m e) where
       let near = here in
       let h = changes p.sides m.face (m.half_edges + 4) distinct.sides (omega arith) in
       let z = zero_count_four m.face m.half_edges in
-      let a = zero_bit_positive (m.face e) left in
-      let a1 : zero_bit (m.face bc) ≡ zero_bit (m.face e) = ap zero_bit near.face_next in
-      let a2 : zero_bit (m.face ca) ≡ zero_bit (m.face e) = ap zero_bit near.face_prev in
+      let a = inner_sides near left in
       let f0 = zero_bit_positive m.faces (omega arith) in
       let n0 = zero_bit_zero in
       let c = M.counts in

@@ -4,7 +4,6 @@ pub mod Triangles
 pub mod Keeping
 pub mod InnerChange
 pub mod WrongEdge
-pub mod SumChanges
 pub mod Prisms
 pub mod FlipVolume
 pub mod Steps

@@ -1,4 +1,5 @@
 pub mod Changes
+pub mod SumChanges
 pub mod Places
 pub mod Cells
 pub mod Twins

@@ -5,13 +5,13 @@ use Rattle.dcel.specs.Map.{Map, twin}
 use Rattle.dcel.specs.Mesh.{Sound, Counts, Mesh}
 use Rattle.dcel.specs.Patch.{Patch, patched}
 use Rattle.dcel.specs.EdgeSurgery.{LineEdge, split_line_edge_patch}
-use Rattle.dcel.proofs.Changes.{changed_at, changed_off, below_places}
+use Rattle.dcel.proofs.Changes.{changed_at, changed_off, elsewhere}
 use Rattle.dcel.proofs.Counting.{line_counts}
 use Rattle.dcel.proofs.Fits.{IsPatched, Distinct, Relinks, Fits, Reach, stand_in, RoundFits}
 use Rattle.dcel.proofs.PatchRound.{reach_self, reach_from, one_turn}
 use Rattle.dcel.proofs.Neighbours.{Neighbours, neighbours, new_pairs}
 use Rattle.dcel.proofs.Surgeries.{Surgery}
-use Rattle.dcel.proofs.Twins.{twin_twin, twin_ne, twin_below}
+use Rattle.dcel.proofs.Twins.{twin_twin, twin_ne, twin_below, twin_apart}
 
 module _ (m : Map) (M : Mesh m) (e : ℕ) (may : LineEdge m e) where
   abbrev S : Sound m
@@ -56,13 +56,13 @@ module _ (m : Map) (M : Mesh m) (e : ℕ) (may : LineEdge m e) where
   distinct = let near = here in let far = across in let v = S.origin_in ba far.in_e in let x = twin_ne e in let a1 = long in let a2 = e_db in record { tails = omega arith; heads = omega arith; sides = omega arith; origins = omega arith; edges = tt; outs = omega arith }
 
   origin_same : (n : Map) → IsPatched m n p → (x : ℕ) → x < m.half_edges → x ≢ ba → n.origin x ≡ m.origin x
-  origin_same n d x h q = d.origin_off x (λ k. elim k [ inl r ↦ q r | inr k ↦ below_places ((pb, 0) ∷ (bp, 0) ∷ []) m.half_edges x (omega arith) h k ])
+  origin_same n d x h q = d.origin_off x (elsewhere p.origins x (omega arith))
 
   origin_same_twin : (n : Map) → IsPatched m n p → (x : ℕ) → x < m.half_edges → x ≢ e → n.origin (twin x) ≡ m.origin (twin x)
-  origin_same_twin n d x h q = origin_same n d (twin x) (S.twin_in x h) (λ r. q (sym (twin_twin x) ∙ ap twin r ∙ twin_twin e))
+  origin_same_twin n d x h q = origin_same n d (twin x) (S.twin_in x h) (twin_apart x e q)
 
   face_same : (n : Map) → IsPatched m n p → (x : ℕ) → x < m.half_edges → m.face x ≡ 0 → n.face x ≡ 0
-  face_same n d x h q = d.face_off x (below_places p.sides m.half_edges x (omega arith) h) ∙ q
+  face_same n d x h q = d.face_off x (elsewhere p.sides x (omega arith)) ∙ q
 
   -- what loses its partner gets another
   pub relinks : Relinks m p
@@ -125,10 +125,10 @@ module _ (m : Map) (M : Mesh m) (e : ℕ) (may : LineEdge m e) where
   moved = (ba, bp) ∷ []
 
   itself : (x : ℕ) → x ≢ ba → stand_in moved x ≡ x
-  itself x q = changed_off moved (λ y. y) x (λ k. elim k [ inl r ↦ q r | inr k ↦ k ])
+  itself x q = changed_off moved (λ y. y) x (elsewhere moved x (omega arith))
 
   itself_twin : (x : ℕ) → x ≢ e → stand_in moved (twin x) ≡ twin x
-  itself_twin x q = itself (twin x) (λ r. q (sym (twin_twin x) ∙ ap twin r ∙ twin_twin e))
+  itself_twin x q = itself (twin x) (twin_apart x e q)
 
   -- turning round: r- says where one turn leads
   round_fits : (n : Map) → IsPatched m n p → RoundFits m n p

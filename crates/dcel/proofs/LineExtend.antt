@@ -5,7 +5,7 @@ use Rattle.dcel.specs.Map.{Map, twin}
 use Rattle.dcel.specs.Mesh.{Sound, Counts, Mesh}
 use Rattle.dcel.specs.Patch.{Patch, patched}
 use Rattle.dcel.specs.EdgeSurgery.{LineEnd, extend_line_patch}
-use Rattle.dcel.proofs.Changes.{below_places}
+use Rattle.dcel.proofs.Changes.{elsewhere}
 use Rattle.dcel.proofs.Counting.{line_counts}
 use Rattle.dcel.proofs.Fits.{IsPatched, Distinct, Relinks, Fits, RoundFits}
 use Rattle.dcel.proofs.PatchRound.{reach_self, one_turn}
@@ -50,10 +50,10 @@ module _ (m : Map) (M : Mesh m) (e : ℕ) (may : LineEnd m e) where
   distinct = let near = here in let i = S.twin_in e in_e in record { tails = omega arith; heads = omega arith; sides = omega arith; origins = omega arith; edges = tt; outs = (tt, tt) }
 
   origin_same : (n : Map) → IsPatched m n p → (x : ℕ) → x < m.half_edges → n.origin x ≡ m.origin x
-  origin_same n d x h = d.origin_off x (below_places p.origins m.half_edges x (omega arith) h)
+  origin_same n d x h = d.origin_off x (elsewhere p.origins x (omega arith))
 
   face_same : (n : Map) → IsPatched m n p → (x : ℕ) → x < m.half_edges → n.face x ≡ m.face x
-  face_same n d x h = d.face_off x (below_places p.sides m.half_edges x (omega arith) h)
+  face_same n d x h = d.face_off x (elsewhere p.sides x (omega arith))
 
   -- what loses its partner gets another
   pub relinks : Relinks m p

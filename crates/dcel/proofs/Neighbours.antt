@@ -1,6 +1,6 @@
 -- What is known round a half edge of a sound map, and of the numbers that follow the last half edge.
-use Rattle.std.proofs.Common.{◌≡◌, ℕ, ◌+◌, ◌-◌, ◌%◌, ◌<◌, ◌≤◌, ◌≢◌, sym, ap, ◌∙◌, subst, inl, inr, arith}
-use native.Mathlib.Decide.{ℕ_discrete, dec_lt}
+use Rattle.std.proofs.Common.{◌≡◌, ℕ, ◌+◌, ◌-◌, ◌%◌, ◌<◌, ◌≢◌, sym, ap, ◌∙◌, subst, inl, inr, arith}
+use Rattle.std.proofs.lemmas.Bool.{cases_lt}
 use Rattle.dcel.specs.Map.{Map, twin}
 use Rattle.dcel.specs.Mesh.{Among, Sound}
 use Rattle.dcel.proofs.Twins.{twin_twin, twin_ne}
@@ -72,12 +72,8 @@ pub record NewPairs (m : Map) : Type 0 where
 pub new_pairs : (m : Map) → Sound m → NewPairs m
 unfolding twin
 new_pairs m S =
-    let ev : m.half_edges % 2 ≡ 0 = elim (dec_lt 0 m.half_edges) [ yes p ↦ omega (arith, S.twin_in (m.half_edges - 1) (omega arith)) | no p ↦ omega arith ] in
+    let ev : m.half_edges % 2 ≡ 0 = elim (cases_lt 0 m.half_edges) [ inl p ↦ omega (arith, S.twin_in (m.half_edges - 1) (omega arith)) | inr p ↦ omega arith ] in
     record { even = ev; t0 = omega arith; t1 = omega arith; t2 = omega arith; t3 = omega arith; t4 = omega arith; t5 = omega arith }
-
--- new numbers, one by one
-pub new_one : (P : ℕ → Type 0) (k z : ℕ) → P k → ((i : ℕ) → k + 1 ≤ i → i < z → P i) → (i : ℕ) → k ≤ i → i < z → P i
-new_one P k z p q i h l = elim (ℕ_discrete i k) [ yes s ↦ subst P (sym s) p | no s ↦ q i (omega arith) l ]
 
 -- what is known round any half edge
 pub record Neighbours (m : Map) (e : ℕ) : Type 0 where

@@ -1,6 +1,6 @@
 -- A vertex put into its row: the sites change there, and nothing else does.
 use Rattle.std.proofs.Common.{◌≡◌, ℕ, ◌%◌, ◌<◌, Bool, true, false, cond, eqb, List, length, refl, ap, ◌∙◌, arith}
-use mathlib.Core.Path.{fun_ext}
+use Rattle.std.proofs.Math.Path.{fun_ext}
 use Rattle.dcel.specs.Layout.{Size, Table, vertex_x, vertex_y, vertex_data, total}
 use Rattle.dcel.specs.Pairs.{changed}
 use Rattle.dcel.specs.Memory.{cell, put, put_vertex}

@@ -1,5 +1,5 @@
 -- What is said of the corners of faces, of the ends of outer half edges, and of the four corners at an edge between two faces stays where a patch changes nothing.
-use Rattle.std.proofs.Common.{◌≡◌, ℕ, ◌<◌, ◌≢◌, sym, ap, ◌∙◌, subst, inl, inr}
+use Rattle.std.proofs.Common.{◌≡◌, ℕ, ◌<◌, ◌≢◌, sym, ap, ◌∙◌, subst, inl, inr, ⊎_elim}
 use Rattle.dcel.specs.Pairs.{All, Source}
 use Rattle.dcel.specs.Map.{Map, twin}
 use Rattle.dcel.specs.Mesh.{Sound}
@@ -39,7 +39,7 @@ module _ (m n : Map) (S : Sound m) (p : Patch) (d : IsPatched m n p) (r : Relink
   pub faces_keep : (P : ℕ → ℕ → ℕ → Type 0) → ((e : ℕ) → e < m.half_edges → m.face e ≢ 0 → P (m.origin e) (m.origin (m.next e)) (m.origin (m.next (m.next e)))) →
       All (λ e g. n.face e ≢ 0 → P (n.origin e) (n.origin g) (n.origin (n.next g))) p.links →
       (e : ℕ) → e < n.half_edges → n.face e ≢ 0 → P (n.origin e) (n.origin (n.next e)) (n.origin (n.next (n.next e)))
-  faces_keep P o a e h z = elim (source? e p.links) [ inl k ↦ by k | inr f ↦ off f ]
+  faces_keep P o a e h z = ⊎_elim by off (source? e p.links)
     where
       by : Source e p.links → P (n.origin e) (n.origin (n.next e)) (n.origin (n.next (n.next e)))
       by k = let x = at_source _ p.links (both _ _ p.links d.next_at a) e k in subst (λ y. P (n.origin e) (n.origin y) (n.origin (n.next y))) (sym x.1.0) (x.1.1 z)

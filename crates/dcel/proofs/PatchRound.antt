@@ -1,6 +1,6 @@
 -- A patch that fits keeps: turning round a vertex comes through all half edges that begin there.
-use Rattle.std.proofs.Common.{◌≡◌, ℕ, zero, suc, ◌+◌, ◌<◌, ◌≤◌, sym, refl, ap, ◌∙◌, subst, inl, inr, suc-add, zero-add, arith}
-use native.Mathlib.Decide.{dec_lt}
+use Rattle.std.proofs.Common.{◌≡◌, ℕ, zero, suc, ◌+◌, ◌<◌, ◌≤◌, sym, refl, ap, ◌∙◌, subst, inl, inr, suc-add, zero-add, arith, ⊎_elim}
+use Rattle.std.proofs.lemmas.Bool.{cases_lt}
 use Rattle.dcel.specs.Pairs.{Source, Target}
 use Rattle.dcel.specs.Map.{Map, twin}
 use Rattle.dcel.specs.Mesh.{Sound, Round, turns}
@@ -54,10 +54,10 @@ module _ (m n : Map) (S : Sound m) (R : Round m) (p : Patch) (d : IsPatched m n 
   between x y h l q = let r = R.round x y h l q in subst (λ z. Reach n (π x) (π z)) r.1 (lift r.0 x h)
 
   unmoved : (y : ℕ) → y < n.half_edges → (Source y p.origins → ⊥) → (y < m.half_edges) × (n.origin y ≡ m.origin y)
-  unmoved y h f = elim (dec_lt y m.half_edges) [ yes o ↦ (o, d.origin_off y f) | no o ↦ absurd (f (w.new_edge y (omega arith) h).3) ]
+  unmoved y h f = elim (cases_lt y m.half_edges) [ inl o ↦ (o, d.origin_off y f) | inr o ↦ absurd (f (w.new_edge y (omega arith) h).3) ]
 
   ahead : (y : ℕ) → y < n.half_edges → n.origin y < m.vertices → (x : ℕ) × (x < m.half_edges) × (m.origin x ≡ n.origin y) × Reach n y (π x)
-  ahead y h l = elim (source? y p.origins) [ inl k ↦ by k | inr f ↦ off f ]
+  ahead y h l = ⊎_elim by off (source? y p.origins)
     where
       by : Source y p.origins → (x : ℕ) × (x < m.half_edges) × (m.origin x ≡ n.origin y) × Reach n y (π x)
       by k = let x = at_source _ p.origins (both _ _ p.origins d.origin_at u.ahead) y k in
@@ -67,7 +67,7 @@ module _ (m n : Map) (S : Sound m) (R : Round m) (p : Patch) (d : IsPatched m n 
       off f = let o = unmoved y h f in (y, o.0, sym o.1, reach_self n _ _ (sym (same_origin y f)))
 
   behind : (y : ℕ) → y < n.half_edges → n.origin y < m.vertices → (x : ℕ) × (x < m.half_edges) × (m.origin x ≡ n.origin y) × Reach n (π x) y
-  behind y h l = elim (source? y p.origins) [ inl k ↦ by k | inr f ↦ off f ]
+  behind y h l = ⊎_elim by off (source? y p.origins)
     where
       by : Source y p.origins → (x : ℕ) × (x < m.half_edges) × (m.origin x ≡ n.origin y) × Reach n (π x) y
       by k = let x = at_source _ p.origins (both _ _ p.origins d.origin_at u.behind) y k in
@@ -77,7 +77,7 @@ module _ (m n : Map) (S : Sound m) (R : Round m) (p : Patch) (d : IsPatched m n 
       off f = let o = unmoved y h f in (y, o.0, sym o.1, reach_self n _ _ (same_origin y f))
 
   about : (y : ℕ) → y < n.half_edges → m.vertices ≤ n.origin y → Reach n y (n.out (n.origin y)) × Reach n (n.out (n.origin y)) y
-  about y h l = elim (source? y p.origins) [ inl k ↦ by k | inr f ↦ off f ]
+  about y h l = ⊎_elim by off (source? y p.origins)
     where
       by : Source y p.origins → Reach n y (n.out (n.origin y)) × Reach n (n.out (n.origin y)) y
       by k = let x = at_source _ p.origins (both _ _ p.origins d.origin_at u.about) y k in
@@ -87,7 +87,7 @@ module _ (m n : Map) (S : Sound m) (R : Round m) (p : Patch) (d : IsPatched m n 
       off f = let o = unmoved y h f in absurd (omega (arith, o.1, S.origin_in y o.0))
 
   all_round : (y z : ℕ) → y < n.half_edges → z < n.half_edges → n.origin y ≡ n.origin z → Reach n y z
-  all_round y z h l q = elim (dec_lt (n.origin y) m.vertices) [ yes o ↦ old o | no o ↦ new (omega arith) ]
+  all_round y z h l q = elim (cases_lt (n.origin y) m.vertices) [ inl o ↦ old o | inr o ↦ new (omega arith) ]
     where
       old : n.origin y < m.vertices → Reach n y z
       old o = let a = ahead y h o in let b = behind z l (omega arith) in reach_then n _ (π a.0) _ a.3 (reach_then n _ (π b.0) _ (between a.0 b.0 a.1 b.1 (a.2 ∙ q ∙ sym b.2)) b.3)

@@ -1,6 +1,6 @@
 -- A patch that fits keeps a map sound.
-use Rattle.std.proofs.Common.{◌≡◌, ℕ, ◌<◌, ◌≢◌, sym, ap, ◌∙◌, subst, inl, inr, arith}
-use native.Mathlib.Decide.{dec_lt}
+use Rattle.std.proofs.Common.{◌≡◌, ℕ, ◌<◌, ◌≢◌, sym, ap, ◌∙◌, subst, inl, inr, arith, ⊎_elim}
+use Rattle.std.proofs.lemmas.Bool.{cases_lt}
 use Rattle.dcel.specs.Pairs.{Source, Target}
 use Rattle.dcel.specs.Map.{Map, twin}
 use Rattle.dcel.specs.Mesh.{Among, Sound}
@@ -12,10 +12,10 @@ use Rattle.dcel.proofs.Twins.{twin_twin}
 module _ (m n : Map) (S : Sound m) (p : Patch) (d : IsPatched m n p) (r : Relinks m p) (w : Fits m n p) where
   -- a place that no list has is old
   pub old_tail : (e : ℕ) → e < n.half_edges → (Source e p.links → ⊥) → e < m.half_edges
-  old_tail e h f = elim (dec_lt e m.half_edges) [ yes l ↦ l | no k ↦ absurd (f (w.new_edge e (omega arith) h).0) ]
+  old_tail e h f = elim (cases_lt e m.half_edges) [ inl l ↦ l | inr k ↦ absurd (f (w.new_edge e (omega arith) h).0) ]
 
   old_head : (e : ℕ) → e < n.half_edges → (Target e p.links → ⊥) → e < m.half_edges
-  old_head e h f = elim (dec_lt e m.half_edges) [ yes l ↦ l | no k ↦ absurd (f (w.new_edge e (omega arith) h).1) ]
+  old_head e h f = elim (cases_lt e m.half_edges) [ inl l ↦ l | inr k ↦ absurd (f (w.new_edge e (omega arith) h).1) ]
 
   -- off the links, next leads to what keeps its prev
   next_head : (e : ℕ) → e < m.half_edges → (Source e p.links → ⊥) → Target (m.next e) p.links → ⊥
@@ -25,7 +25,7 @@ module _ (m n : Map) (S : Sound m) (p : Patch) (d : IsPatched m n p) (r : Relink
   prev_tail e h f k = f (subst (λ x. Target x p.links) (S.next_prev e h) ((at_source _ p.links r.tails (m.prev e) k).1 (S.prev_in e h)))
 
   next_in : (e : ℕ) → e < n.half_edges → n.next e < n.half_edges
-  next_in e h = elim (source? e p.links) [ inl k ↦ by k | inr f ↦ off f ]
+  next_in e h = ⊎_elim by off (source? e p.links)
     where
       by : Source e p.links → n.next e < n.half_edges
       by k = let x = at_source _ p.links (both _ _ p.links d.next_at w.link_in) e k in omega (arith, x.1.0, x.1.1.1)
@@ -34,7 +34,7 @@ module _ (m n : Map) (S : Sound m) (p : Patch) (d : IsPatched m n p) (r : Relink
       off f = let o = old_tail e h f in omega (arith, d.next_off e f, S.next_in e o, w.half_edges_more)
 
   prev_in : (e : ℕ) → e < n.half_edges → n.prev e < n.half_edges
-  prev_in e h = elim (target? e p.links) [ inl k ↦ by k | inr f ↦ off f ]
+  prev_in e h = ⊎_elim by off (target? e p.links)
     where
       by : Target e p.links → n.prev e < n.half_edges
       by k = let x = at_target _ p.links (both _ _ p.links d.prev_at w.link_in) e k in omega (arith, x.1.0, x.1.1.0)
@@ -43,7 +43,7 @@ module _ (m n : Map) (S : Sound m) (p : Patch) (d : IsPatched m n p) (r : Relink
       off f = let o = old_head e h f in omega (arith, d.prev_off e f, S.prev_in e o, w.half_edges_more)
 
   prev_next : (e : ℕ) → e < n.half_edges → n.prev (n.next e) ≡ e
-  prev_next e h = elim (source? e p.links) [ inl k ↦ by k | inr f ↦ off f ]
+  prev_next e h = ⊎_elim by off (source? e p.links)
     where
       by : Source e p.links → n.prev (n.next e) ≡ e
       by k = let x = at_source _ p.links (both _ _ p.links d.next_at d.prev_at) e k in ap n.prev x.1.0 ∙ x.1.1
@@ -52,7 +52,7 @@ module _ (m n : Map) (S : Sound m) (p : Patch) (d : IsPatched m n p) (r : Relink
       off f = let o = old_tail e h f in ap n.prev (d.next_off e f) ∙ d.prev_off (m.next e) (next_head e o f) ∙ S.prev_next e o
 
   next_prev : (e : ℕ) → e < n.half_edges → n.next (n.prev e) ≡ e
-  next_prev e h = elim (target? e p.links) [ inl k ↦ by k | inr f ↦ off f ]
+  next_prev e h = ⊎_elim by off (target? e p.links)
     where
       by : Target e p.links → n.next (n.prev e) ≡ e
       by k = let x = at_target _ p.links (both _ _ p.links d.prev_at d.next_at) e k in ap n.next x.1.0 ∙ x.1.1
@@ -76,7 +76,7 @@ module _ (m n : Map) (S : Sound m) (p : Patch) (d : IsPatched m n p) (r : Relink
       ∙ S.face_next e o
 
   origin_next : (e : ℕ) → e < n.half_edges → n.origin (n.next e) ≡ n.origin (twin e)
-  origin_next e h = elim (source? e p.links) [ inl k ↦ by k | inr f ↦ off f ]
+  origin_next e h = ⊎_elim by off (source? e p.links)
     where
       by : Source e p.links → n.origin (n.next e) ≡ n.origin (twin e)
       by k = let x = at_source _ p.links (both _ _ p.links d.next_at w.ends) e k in ap n.origin x.1.0 ∙ x.1.1
@@ -85,7 +85,7 @@ module _ (m n : Map) (S : Sound m) (p : Patch) (d : IsPatched m n p) (r : Relink
       off f = let o = old_tail e h f in ap n.origin (d.next_off e f) ∙ origin_old e o f
 
   face_next : (e : ℕ) → e < n.half_edges → n.face (n.next e) ≡ n.face e
-  face_next e h = elim (source? e p.links) [ inl k ↦ by k | inr f ↦ off f ]
+  face_next e h = ⊎_elim by off (source? e p.links)
     where
       by : Source e p.links → n.face (n.next e) ≡ n.face e
       by k = let x = at_source _ p.links (both _ _ p.links d.next_at w.same_side) e k in ap n.face x.1.0 ∙ x.1.1
@@ -94,22 +94,22 @@ module _ (m n : Map) (S : Sound m) (p : Patch) (d : IsPatched m n p) (r : Relink
       off f = let o = old_tail e h f in ap n.face (d.next_off e f) ∙ face_next_old e o f ∙ sym (face_old e o f)
 
   origin_in : (e : ℕ) → e < n.half_edges → n.origin e < n.vertices
-  origin_in e h = elim (source? e p.origins) [ inl k ↦ by k | inr f ↦ off f ]
+  origin_in e h = ⊎_elim by off (source? e p.origins)
     where
       by : Source e p.origins → n.origin e < n.vertices
       by k = let x = at_source _ p.origins (both _ _ p.origins d.origin_at w.origin_fits) e k in omega (arith, x.1.0, x.1.1.0)
 
       off : (Source e p.origins → ⊥) → n.origin e < n.vertices
-      off f = elim (dec_lt e m.half_edges) [ yes o ↦ omega (arith, d.origin_off e f, S.origin_in e o, w.vertices_more) | no k ↦ absurd (f (w.new_edge e (omega arith) h).3) ]
+      off f = elim (cases_lt e m.half_edges) [ inl o ↦ omega (arith, d.origin_off e f, S.origin_in e o, w.vertices_more) | inr k ↦ absurd (f (w.new_edge e (omega arith) h).3) ]
 
   face_in : (e : ℕ) → e < n.half_edges → n.face e < n.faces
-  face_in e h = elim (source? e p.sides) [ inl k ↦ by k | inr f ↦ off f ]
+  face_in e h = ⊎_elim by off (source? e p.sides)
     where
       by : Source e p.sides → n.face e < n.faces
       by k = let x = at_source _ p.sides (both _ _ p.sides d.face_at w.side_fits) e k in omega (arith, x.1.0, x.1.1.0)
 
       off : (Source e p.sides → ⊥) → n.face e < n.faces
-      off f = elim (dec_lt e m.half_edges) [ yes o ↦ omega (arith, d.face_off e f, S.face_in e o, w.faces_more) | no k ↦ absurd (f (w.new_edge e (omega arith) h).2) ]
+      off f = elim (cases_lt e m.half_edges) [ inl o ↦ omega (arith, d.face_off e f, S.face_in e o, w.faces_more) | inr k ↦ absurd (f (w.new_edge e (omega arith) h).2) ]
 
   -- off the links, in a face, the whole face is off the links
   next_off_too : (e : ℕ) → e < m.half_edges → m.face e ≢ 0 → (Source e p.links → ⊥) → Source (m.next e) p.links → ⊥
@@ -139,7 +139,7 @@ module _ (m n : Map) (S : Sound m) (p : Patch) (d : IsPatched m n p) (r : Relink
       record { old = o; face_is = s; inner = i; once = d.next_off e f; twice = d.next_off (m.next e) f1; thrice = d.next_off (m.next (m.next e)) f2 ∙ S.three e o i; off_1 = f1; off_2 = f2 }
 
   three : (e : ℕ) → e < n.half_edges → n.face e ≢ 0 → n.next (n.next (n.next e)) ≡ e
-  three e h z = elim (source? e p.links) [ inl k ↦ by k | inr f ↦ off f ]
+  three e h z = ⊎_elim by off (source? e p.links)
     where
       by : Source e p.links → n.next (n.next (n.next e)) ≡ e
       by k = let x = at_source _ p.links (both _ _ p.links d.next_at w.rounds) e k in ap (λ y. n.next (n.next y)) x.1.0 ∙ (x.1.1 z).0
@@ -154,19 +154,19 @@ module _ (m n : Map) (S : Sound m) (p : Patch) (d : IsPatched m n p) (r : Relink
   ]
     where
       off : (Source e p.origins → ⊥) → (Source (twin e) p.origins → ⊥) → ⊥
-      off f g = elim (dec_lt e m.half_edges) [ yes o ↦ S.no_loop e o (sym (d.origin_off e f) ∙ q ∙ d.origin_off (twin e) g) | no k ↦ f (w.new_edge e (omega arith) h).3 ]
+      off f g = elim (cases_lt e m.half_edges) [ inl o ↦ S.no_loop e o (sym (d.origin_off e f) ∙ q ∙ d.origin_off (twin e) g) | inr k ↦ f (w.new_edge e (omega arith) h).3 ]
 
   edge_in : (f : ℕ) → 0 < f → f < n.faces → n.edge f < n.half_edges
-  edge_in f f0 h = elim (source? f p.edges) [ inl k ↦ by k | inr f ↦ off f ]
+  edge_in f f0 h = ⊎_elim by off (source? f p.edges)
     where
       by : Source f p.edges → n.edge f < n.half_edges
       by k = let x = at_source _ p.edges (both _ _ p.edges d.edge_at w.edge_fits) f k in omega (arith, x.1.0, x.1.1.0)
 
       off : (Source f p.edges → ⊥) → n.edge f < n.half_edges
-      off g = elim (dec_lt f m.faces) [ yes o ↦ omega (arith, d.edge_off f g, S.edge_in f f0 o, w.half_edges_more) | no k ↦ absurd (g (w.new_face f (omega arith) h)) ]
+      off g = elim (cases_lt f m.faces) [ inl o ↦ omega (arith, d.edge_off f g, S.edge_in f f0 o, w.half_edges_more) | inr k ↦ absurd (g (w.new_face f (omega arith) h)) ]
 
   edge_face : (f : ℕ) → 0 < f → f < n.faces → n.face (n.edge f) ≡ f
-  edge_face f f0 h = elim (source? f p.edges) [ inl k ↦ by k | inr f ↦ off f ]
+  edge_face f f0 h = ⊎_elim by off (source? f p.edges)
     where
       by : Source f p.edges → n.face (n.edge f) ≡ f
       by k = let x = at_source _ p.edges (both _ _ p.edges d.edge_at w.edge_fits) f k in ap n.face x.1.0 ∙ x.1.1.1
@@ -180,10 +180,10 @@ module _ (m n : Map) (S : Sound m) (p : Patch) (d : IsPatched m n p) (r : Relink
           ∙ s
 
       off : (Source f p.edges → ⊥) → n.face (n.edge f) ≡ f
-      off g = elim (dec_lt f m.faces) [ yes o ↦ off_old g o | no k ↦ absurd (g (w.new_face f (omega arith) h)) ]
+      off g = elim (cases_lt f m.faces) [ inl o ↦ off_old g o | inr k ↦ absurd (g (w.new_face f (omega arith) h)) ]
 
   edge_of : (e : ℕ) → e < n.half_edges → n.face e ≢ 0 → Among (n.edge (n.face e)) e (n.next e) (n.next (n.next e))
-  edge_of e h z = elim (source? e p.links) [ inl k ↦ by k | inr f ↦ off f ]
+  edge_of e h z = ⊎_elim by off (source? e p.links)
     where
       by : Source e p.links → Among (n.edge (n.face e)) e (n.next e) (n.next (n.next e))
       by k =
@@ -206,16 +206,16 @@ module _ (m n : Map) (S : Sound m) (p : Patch) (d : IsPatched m n p) (r : Relink
           elim a [ inl q ↦ inl (cc) | inr r ↦ elim r [ inl q ↦ inr (inl (cc)) | inr q ↦ inr (inr (cc)) ] ]
 
   out_in : (v : ℕ) → v < n.vertices → n.out v < n.half_edges
-  out_in v h = elim (source? v p.outs) [ inl k ↦ by k | inr f ↦ off f ]
+  out_in v h = ⊎_elim by off (source? v p.outs)
     where
       by : Source v p.outs → n.out v < n.half_edges
       by k = let x = at_source _ p.outs (both _ _ p.outs d.out_at w.out_fits) v k in omega (arith, x.1.0, x.1.1.0)
 
       off : (Source v p.outs → ⊥) → n.out v < n.half_edges
-      off g = elim (dec_lt v m.vertices) [ yes o ↦ omega (arith, d.out_off v g, S.out_in v o, w.half_edges_more) | no k ↦ absurd (g (w.new_vertex v (omega arith) h)) ]
+      off g = elim (cases_lt v m.vertices) [ inl o ↦ omega (arith, d.out_off v g, S.out_in v o, w.half_edges_more) | inr k ↦ absurd (g (w.new_vertex v (omega arith) h)) ]
 
   out_origin : (v : ℕ) → v < n.vertices → n.origin (n.out v) ≡ v
-  out_origin v h = elim (source? v p.outs) [ inl k ↦ by k | inr f ↦ off f ]
+  out_origin v h = ⊎_elim by off (source? v p.outs)
     where
       by : Source v p.outs → n.origin (n.out v) ≡ v
       by k = let x = at_source _ p.outs (both _ _ p.outs d.out_at w.out_fits) v k in ap n.origin x.1.0 ∙ x.1.1.1
@@ -228,7 +228,7 @@ module _ (m n : Map) (S : Sound m) (p : Patch) (d : IsPatched m n p) (r : Relink
           ∙ s
 
       off : (Source v p.outs → ⊥) → n.origin (n.out v) ≡ v
-      off g = elim (dec_lt v m.vertices) [ yes o ↦ off_old g o | no k ↦ absurd (g (w.new_vertex v (omega arith) h)) ]
+      off g = elim (cases_lt v m.vertices) [ inl o ↦ off_old g o | inr k ↦ absurd (g (w.new_vertex v (omega arith) h)) ]
 
   pub patched_sound : Sound n
   patched_sound = record { twin_in = w.twins; next_in = next_in; prev_in = prev_in; prev_next = prev_next; next_prev = next_prev; origin_in = origin_in; origin_next = origin_next; face_in = face_in; face_next = face_next; three = three; no_loop = no_loop; edge_in = edge_in; edge_face = edge_face; edge_of = edge_of; out_in = out_in; out_origin = out_origin }

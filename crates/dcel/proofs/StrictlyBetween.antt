@@ -1,7 +1,8 @@
 -- The test `strictly_between`, by signs.
 use Rattle.std.proofs.Common.{◌≡◌, true, false}
 use Rattle.exact.specs.Plane.{Point, Diff, plus, times, below_0, across, along, in_line}
-use Rattle.exact.proofs.Booleans.{and_left, and_right, and←, is_false, true_false}
+use Rattle.std.proofs.lemmas.Bool.{and_from, false_from_ne_true}
+use Rattle.exact.proofs.Booleans.{and_left, and_right, true_false}
 use Rattle.exact.proofs.Algebra.Tests.{below→, below←}
 use Rattle.exact.proofs.Geometry.Words.{dot, InSegment}
 use Rattle.exact.proofs.Geometry.Tests.{in_line→, in_line←}
@@ -17,10 +18,10 @@ module _ (a b v : Point) where
 
   pub strictly_between← : InSegment a b v → strictly_between a b v ≡ true
   unfolding dot
-  strictly_between← h = and← (in_line a b v) (below_0 opposite) (in_line← a b v h.on) (below← opposite h.opposite)
+  strictly_between← h = and_from (in_line a b v) (below_0 opposite) (in_line← a b v h.on) (below← opposite h.opposite)
 
   pub not_strictly_between→ : strictly_between a b v ≡ false → InSegment a b v → ⊥
   not_strictly_between→ e h = true_false (strictly_between a b v) (strictly_between← h) e
 
   pub not_strictly_between← : (InSegment a b v → ⊥) → strictly_between a b v ≡ false
-  not_strictly_between← n = is_false (strictly_between a b v) (λ e. n (strictly_between→ e))
+  not_strictly_between← n = false_from_ne_true (strictly_between a b v) (λ e. n (strictly_between→ e))

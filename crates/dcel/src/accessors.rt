@@ -1,145 +1,103 @@
-// Reading memory, whatever it holds: past the end of a table all is 0.
-ghost use Rattle.std.specs.Prelude.{◌≡◌, ◌+◌, ◌*◌, ◌<◌, ◌≤◌, length};
-ghost use Rattle.dcel.specs.Layout.{real, total, header as at-header, vertex_data, vertex_out, edge_next, edge_prev, edge_face, edge_origin, face_edge, worklist as at-worklist};
-ghost use Rattle.dcel.specs.Memory.{row, cell, at_most as clamped, vertices_in, half_edges_in, faces_in, x_in, y_in};
+// Reading memory, whatever it holds: past the end of a table all is 0. Each reader names its table, and its contract ties the table's numbers to the definition; a trait over tables would take more lines for each than its one.
+#![tactic(auto, unfolding(crate::specs::Memory::cell, crate::specs::Memory::at_most))]
+
+ghost use Rattle.std.specs.Prelude.{◌≡◌, ◌<◌, ◌≤◌};
+ghost use Rattle.dcel.specs.Layout.{real, header as at-header, vertex_data, vertex_out, edge_next, edge_prev, edge_face, edge_origin, face_edge, worklist as at-worklist};
+ghost use Rattle.dcel.specs.Memory.{cell, vertices_in, half_edges_in, faces_in, x_in, y_in};
 
 use crate::ids::{EdgeId, FaceId, HalfEdge, VertexId};
 use crate::layout::{
-    COORDINATES, EDGE_FACE, EDGE_NEXT, EDGE_ORIGIN, EDGE_PREV, EDGES, FACE_COUNT, FACE_EDGE, FACES,
-    HALF_EDGE_COUNT, HALF_EDGES, HEADER, VERTEX_COUNT, VERTEX_DATA, VERTEX_OUT, VERTEX_X, VERTEX_Y,
-    VERTICES, WORKLIST,
+    COORDINATES, EDGE_FACE, EDGE_NEXT, EDGE_ORIGIN, EDGE_PREV, FACE_COUNT, FACE_EDGE, FACES,
+    HALF_EDGE_COUNT, HALF_EDGES, HEADER, Memory, VERTEX_COUNT, VERTEX_DATA, VERTEX_OUT, VERTEX_X,
+    VERTEX_Y, VERTICES, WORKLIST,
 };
 
-// Row `i` of `number` rows of one word each.
-fn word(memory: &[u64], from: u64, number: u64, i: u64) -> u64
-    requires { (from + number ≤ length memory.now) × (length memory.now ≡ total real) }
-    ensures { result ≡ row from 1 number memory.now i }
-{
-    if i < number {
-        memory[(from + i) as usize]
-    } else {
-        0
-    }
-}
-
-// One word of row `i` of `number` rows of four words each.
-fn word_of_four(memory: &[u64], from: u64, number: u64, i: u64) -> u64
-    requires { (from + 4 * number ≤ length memory.now + 3) × (length memory.now ≡ total real) }
-    ensures { result ≡ row from 4 number memory.now i }
-{
-    if i < number {
-        memory[(from + 4 * i) as usize]
-    } else {
-        0
-    }
-}
-
 // Word `i` of the header.
-pub fn header(memory: &[u64], i: u64) -> u64
-    requires { length memory.now ≡ total real }
+pub fn header(memory: &Memory, i: u64) -> u64
     ensures { result ≡ cell real at-header memory.now i }
 {
-    word(memory, 0, HEADER, i)
-}
-
-fn at_most(limit: u64, n: u64) -> u64
-    ensures is { result ≡ clamped limit n }
-    ensures below { result ≤ limit }
-{
-    if n < limit { n } else { limit }
+    HEADER.get(memory, i)
 }
 
 // How many vertices there are.
-pub fn vertices(memory: &[u64]) -> u64
-    requires { length memory.now ≡ total real }
+pub fn vertices(memory: &Memory) -> u64
     ensures is { result ≡ vertices_in real memory.now }
     ensures room { result ≤ 16384 }
 {
-    at_most(VERTICES, header(memory, VERTEX_COUNT))
+    header(memory, VERTEX_COUNT).min(VERTICES)
 }
 
 // How many half edges there are.
-pub fn half_edges(memory: &[u64]) -> u64
-    requires { length memory.now ≡ total real }
+pub fn half_edges(memory: &Memory) -> u64
     ensures is { result ≡ half_edges_in real memory.now }
     ensures room { result ≤ 98304 }
 {
-    at_most(HALF_EDGES, header(memory, HALF_EDGE_COUNT))
+    header(memory, HALF_EDGE_COUNT).min(HALF_EDGES)
 }
 
 // How many faces there are, with the outside.
-pub fn faces(memory: &[u64]) -> u64
-    requires { length memory.now ≡ total real }
+pub fn faces(memory: &Memory) -> u64
     ensures is { result ≡ faces_in real memory.now }
     ensures room { result ≤ 32768 }
 {
-    at_most(FACES, header(memory, FACE_COUNT))
+    header(memory, FACE_COUNT).min(FACES)
 }
 
-pub fn x(memory: &[u64], v: VertexId) -> u64
-    requires { length memory.now ≡ total real }
+pub fn x(memory: &Memory, v: VertexId) -> u64
     ensures is { result ≡ x_in real memory.now v.0 }
     ensures small { result < 1048576 }
 {
-    word_of_four(memory, VERTEX_X, VERTICES, v.0) % COORDINATES
+    VERTEX_X.get(memory, v.0) % COORDINATES
 }
 
-pub fn y(memory: &[u64], v: VertexId) -> u64
-    requires { length memory.now ≡ total real }
+pub fn y(memory: &Memory, v: VertexId) -> u64
     ensures is { result ≡ y_in real memory.now v.0 }
     ensures small { result < 1048576 }
 {
-    word_of_four(memory, VERTEX_Y, VERTICES, v.0) % COORDINATES
+    VERTEX_Y.get(memory, v.0) % COORDINATES
 }
 
-pub fn data(memory: &[u64], v: VertexId) -> u64
-    requires { length memory.now ≡ total real }
+pub fn data(memory: &Memory, v: VertexId) -> u64
     ensures { result ≡ cell real vertex_data memory.now v.0 }
 {
-    word_of_four(memory, VERTEX_DATA, VERTICES, v.0)
+    VERTEX_DATA.get(memory, v.0)
 }
 
 // A half edge that leaves `v`.
-pub fn out(memory: &[u64], v: VertexId) -> EdgeId
-    requires { length memory.now ≡ total real }
+pub fn out(memory: &Memory, v: VertexId) -> EdgeId
     ensures { result.0 ≡ cell real vertex_out memory.now v.0 }
 {
-    EdgeId(word_of_four(memory, VERTEX_OUT, VERTICES, v.0))
+    EdgeId(VERTEX_OUT.get(memory, v.0))
 }
 
-pub fn next(memory: &[u64], e: EdgeId) -> EdgeId
-    requires { length memory.now ≡ total real }
+pub fn next(memory: &Memory, e: EdgeId) -> EdgeId
     ensures { result.0 ≡ cell real edge_next memory.now e.0 }
 {
-    EdgeId(word_of_four(memory, EDGE_NEXT, HALF_EDGES, e.0))
+    EdgeId(EDGE_NEXT.get(memory, e.0))
 }
 
-pub fn prev(memory: &[u64], e: EdgeId) -> EdgeId
-    requires { length memory.now ≡ total real }
+pub fn prev(memory: &Memory, e: EdgeId) -> EdgeId
     ensures { result.0 ≡ cell real edge_prev memory.now e.0 }
 {
-    EdgeId(word_of_four(memory, EDGE_PREV, HALF_EDGES, e.0))
+    EdgeId(EDGE_PREV.get(memory, e.0))
 }
 
 // The face on the left of `e`.
-pub fn face(memory: &[u64], e: EdgeId) -> FaceId
-    requires { length memory.now ≡ total real }
+pub fn face(memory: &Memory, e: EdgeId) -> FaceId
     ensures { result.0 ≡ cell real edge_face memory.now e.0 }
 {
-    FaceId(word_of_four(memory, EDGE_FACE, HALF_EDGES, e.0))
+    FaceId(EDGE_FACE.get(memory, e.0))
 }
 
 // The vertex at the start of `e`.
-pub fn origin(memory: &[u64], e: EdgeId) -> VertexId
-    requires { length memory.now ≡ total real }
+pub fn origin(memory: &Memory, e: EdgeId) -> VertexId
     ensures { result.0 ≡ cell real edge_origin memory.now e.0 }
 {
-    VertexId(word_of_four(memory, EDGE_ORIGIN, HALF_EDGES, e.0))
+    VertexId(EDGE_ORIGIN.get(memory, e.0))
 }
 
 // All four at once, with one test of `e`.
-pub fn half_edge(memory: &[u64], e: EdgeId) -> HalfEdge
-    requires { length memory.now ≡ total real }
+pub fn half_edge(memory: &Memory, e: EdgeId) -> HalfEdge
     ensures next { result.next.0 ≡ cell real edge_next memory.now e.0 }
     ensures prev { result.prev.0 ≡ cell real edge_prev memory.now e.0 }
     ensures face { result.face.0 ≡ cell real edge_face memory.now e.0 }
@@ -147,10 +105,10 @@ pub fn half_edge(memory: &[u64], e: EdgeId) -> HalfEdge
 {
     if e.0 < HALF_EDGES {
         HalfEdge {
-            next: EdgeId(memory[(EDGE_NEXT + 4 * e.0) as usize]),
-            prev: EdgeId(memory[(EDGE_PREV + 4 * e.0) as usize]),
-            face: FaceId(memory[(EDGE_FACE + 4 * e.0) as usize]),
-            origin: VertexId(memory[(EDGE_ORIGIN + 4 * e.0) as usize]),
+            next: EdgeId(memory[(EDGE_NEXT.start + 4 * e.0) as usize]),
+            prev: EdgeId(memory[(EDGE_PREV.start + 4 * e.0) as usize]),
+            face: FaceId(memory[(EDGE_FACE.start + 4 * e.0) as usize]),
+            origin: VertexId(memory[(EDGE_ORIGIN.start + 4 * e.0) as usize]),
         }
     } else {
         HalfEdge {
@@ -163,17 +121,15 @@ pub fn half_edge(memory: &[u64], e: EdgeId) -> HalfEdge
 }
 
 // One half edge of the face `f`.
-pub fn edge(memory: &[u64], f: FaceId) -> EdgeId
-    requires { length memory.now ≡ total real }
+pub fn edge(memory: &Memory, f: FaceId) -> EdgeId
     ensures { result.0 ≡ cell real face_edge memory.now f.0 }
 {
-    EdgeId(word(memory, FACE_EDGE, FACES, f.0))
+    EdgeId(FACE_EDGE.get(memory, f.0))
 }
 
 // The worklist's word of the edge `i`, whose halves are 2i and 2i + 1.
-pub fn worklist(memory: &[u64], i: u64) -> u64
-    requires { length memory.now ≡ total real }
+pub fn worklist(memory: &Memory, i: u64) -> u64
     ensures { result ≡ cell real at-worklist memory.now i }
 {
-    word(memory, WORKLIST, EDGES, i)
+    WORKLIST.get(memory, i)
 }

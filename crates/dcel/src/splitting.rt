@@ -1,23 +1,24 @@
-// A new vertex in a face or on an edge. It gets the number that follows the last, which is returned.
-ghost use Rattle.std.specs.Prelude.{◌≡◌, length};
-ghost use Rattle.dcel.specs.Layout.{real, total};
+// A new vertex in a face or on an edge. It gets the number that follows the last, which is returned. Each surgery writes the change that its contract cites, in that order, so they share no lines.
+ghost use Rattle.std.specs.Prelude.{◌≡◌};
+ghost use Rattle.dcel.specs.Layout.{real};
 ghost use Rattle.dcel.specs.Memory.{vertices_in};
 ghost use Rattle.dcel.specs.Operations.{apply_with, Grows};
 ghost use Rattle.dcel.specs.Surgery.{Inner, split_face_change, split_face_patch};
 ghost use Rattle.dcel.specs.EdgeSurgery.{InnerEdge, split_inner_edge_change, split_inner_edge_patch, HullEdge, split_hull_edge_change, split_hull_edge_patch};
 
 use crate::accessors::{half_edge, origin};
-use crate::ids::{EdgeId, FaceId, OUTSIDE, VertexId, twin};
+use crate::ids::{EdgeId, FaceId, OUTSIDE, VertexId};
+use crate::layout::Memory;
 use crate::numbers::{Fresh, put_vertex};
+use crate::site::Site;
 use crate::writers::{link, set_counts, set_face, set_origin, set_out, set_two_origins, triangle};
 
 // A vertex p in the face abc of `e`, which runs from a to b: three faces abp, bcp and cap.
-pub fn split_face(memory: &mut [u64], e: EdgeId, x: u64, y: u64, data: u64) -> VertexId
-    requires { length memory.old ≡ total real }
+#[tactic(auto, using(crate::proofs::Laws::split_face_grows))]
+pub fn split_face(memory: &mut Memory, e: EdgeId, site: Site) -> VertexId
     ensures number { result.0 ≡ vertices_in real memory.old }
-    ensures is { memory.new ≡ apply_with real split_face_change memory.old e.0 x y «data» }
-    ensures keeps { Grows real Inner split_face_patch memory.old e.0 x y «data» memory.new }
-    ensures long { length memory.new ≡ total real }
+    ensures is { memory.new ≡ apply_with real split_face_change memory.old e.0 site.x site.y site.«data» }
+    ensures keeps { Grows real Inner split_face_patch memory.old e.0 site.x site.y site.«data» memory.new }
 {
     let ab = half_edge(memory, e);
     let bc = ab.next;
@@ -28,7 +29,7 @@ pub fn split_face(memory: &mut [u64], e: EdgeId, x: u64, y: u64, data: u64) -> V
         vertex: p,
         edge: h,
         face: f,
-    } = put_vertex(memory, x, y, data);
+    } = put_vertex(memory, site);
     let ap = EdgeId(h);
     let pa = EdgeId(h + 1);
     let bp = EdgeId(h + 2);
@@ -47,14 +48,12 @@ pub fn split_face(memory: &mut [u64], e: EdgeId, x: u64, y: u64, data: u64) -> V
 }
 
 // A vertex p on the edge of `e`, which runs from a to b between the faces abc and bad: four faces apc, pbc, pad and bpd.
-pub fn split_inner_edge(memory: &mut [u64], e: EdgeId, x: u64, y: u64, data: u64) -> VertexId
-    requires { length memory.old ≡ total real }
+pub fn split_inner_edge(memory: &mut Memory, e: EdgeId, site: Site) -> VertexId
     ensures number { result.0 ≡ vertices_in real memory.old }
-    ensures is { memory.new ≡ apply_with real split_inner_edge_change memory.old e.0 x y «data» }
-    ensures keeps { Grows real InnerEdge split_inner_edge_patch memory.old e.0 x y «data» memory.new }
-    ensures long { length memory.new ≡ total real }
+    ensures is { memory.new ≡ apply_with real split_inner_edge_change memory.old e.0 site.x site.y site.«data» }
+    ensures keeps { Grows real InnerEdge split_inner_edge_patch memory.old e.0 site.x site.y site.«data» memory.new }
 {
-    let pa = twin(e);
+    let pa = e.twin();
     let ab = half_edge(memory, e);
     let ba = half_edge(memory, pa);
     let c = origin(memory, ab.prev);
@@ -63,7 +62,7 @@ pub fn split_inner_edge(memory: &mut [u64], e: EdgeId, x: u64, y: u64, data: u64
         vertex: p,
         edge: h,
         face: f,
-    } = put_vertex(memory, x, y, data);
+    } = put_vertex(memory, site);
     let pb = EdgeId(h);
     let bp = EdgeId(h + 1);
     let pc = EdgeId(h + 2);
@@ -85,14 +84,13 @@ pub fn split_inner_edge(memory: &mut [u64], e: EdgeId, x: u64, y: u64, data: u64
 }
 
 // A vertex p on the edge of `e`, which runs from a to b with the face abc on its left and the outside across: two faces apc and pbc.
-pub fn split_hull_edge(memory: &mut [u64], e: EdgeId, x: u64, y: u64, data: u64) -> VertexId
-    requires { length memory.old ≡ total real }
+#[tactic(auto, using(crate::proofs::Laws::split_hull_edge_grows))]
+pub fn split_hull_edge(memory: &mut Memory, e: EdgeId, site: Site) -> VertexId
     ensures number { result.0 ≡ vertices_in real memory.old }
-    ensures is { memory.new ≡ apply_with real split_hull_edge_change memory.old e.0 x y «data» }
-    ensures keeps { Grows real HullEdge split_hull_edge_patch memory.old e.0 x y «data» memory.new }
-    ensures long { length memory.new ≡ total real }
+    ensures is { memory.new ≡ apply_with real split_hull_edge_change memory.old e.0 site.x site.y site.«data» }
+    ensures keeps { Grows real HullEdge split_hull_edge_patch memory.old e.0 site.x site.y site.«data» memory.new }
 {
-    let pa = twin(e);
+    let pa = e.twin();
     let ab = half_edge(memory, e);
     let ba = half_edge(memory, pa);
     let c = origin(memory, ab.prev);
@@ -100,7 +98,7 @@ pub fn split_hull_edge(memory: &mut [u64], e: EdgeId, x: u64, y: u64, data: u64)
         vertex: p,
         edge: h,
         face: f,
-    } = put_vertex(memory, x, y, data);
+    } = put_vertex(memory, site);
     let pb = EdgeId(h);
     let bp = EdgeId(h + 1);
     let pc = EdgeId(h + 2);

@@ -1,7 +1,8 @@
 -- Memory that stands for a triangulation holds a Delaunay triangulation of its vertices.
 use Rattle.std.proofs.Common.{◌≡◌, ℕ, ◌<◌, ◌≤◌, true, eqb, List, length, sym, ap, ◌∙◌, subst, ap₂, inl, inr, arith}
 use Rattle.exact.specs.Plane.{every, up_to, Vertex, vertex, vertex_at, spot, same_spot, Delaunay}
-use Rattle.exact.proofs.Booleans.{and_left, and_right, eqb→}
+use Rattle.std.proofs.lemmas.Bool.{eqb-true}
+use Rattle.exact.proofs.Booleans.{and_left, and_right}
 use Rattle.exact.proofs.Enumerations.{each_at}
 use Rattle.exact.proofs.Lists.{every←, each_in, each_length, up_to_length}
 use Rattle.exact.proofs.Vertices.{spot_whole, all_apart←}
@@ -60,7 +61,7 @@ module _ (s : Size) (m : List ℕ) where
         let hi : i < vertices_in s m = omega (arith, vertices_length) in let hj : j < vertices_in s m = omega (arith, vertices_length) in
         let a = place_of s m i in let b = place_of s m j in
         let t : same_spot a b ≡ true = sym (ap₂ same_spot (spot_of i hi) (spot_of j hj)) ∙ e in
-        apart i j hi hj (eqb→ a.x b.x (and_left (eqb a.x b.x) (eqb a.y b.y) t)) (eqb→ a.y b.y (and_right (eqb a.x b.x) (eqb a.y b.y) t))),
+        apart i j hi hj (eqb-true a.x b.x (and_left (eqb a.x b.x) (eqb a.y b.y) t)) (eqb-true a.y b.y (and_right (eqb a.x b.x) (eqb a.y b.y) t))),
     vertices_whole,
   )
 

@@ -1,30 +1,29 @@
-// Flipping till every edge is right.
-ghost use Rattle.std.specs.Prelude.{◌≡◌, length};
-ghost use Rattle.dcel.specs.Layout.{real, total};
+// Flipping till every edge is right. This loop and that of the ears are no `iterate`: what they change is memory, which a step would have to lend and give back.
+ghost use Rattle.std.specs.Prelude.{◌≡◌};
+ghost use Rattle.dcel.specs.Layout.{real};
 ghost use Rattle.delaunay.specs.Legalize.{to_flip, turned, settled_edge, legalized};
 
 use crate::places::is_wrong;
 use crate::worklist::{pop, push};
-use dcel::{EdgeId, face, flip, half_edge, twin};
+use dcel::{EdgeId, Memory, OUTSIDE, face, flip, half_edge};
 
 // More turns than any mesh takes.
 const FUEL: u128 = 3802951800684688204490109665280;
 
-fn is_to_flip(memory: &[u64], e: EdgeId) -> bool
-    requires { length memory.now ≡ total real }
+#[tactic(auto, unfolding(crate::specs::Legalize::to_flip))]
+fn is_to_flip(memory: &Memory, e: EdgeId) -> bool
     ensures { result ≡ to_flip real memory.now e.0 }
 {
-    face(memory, e).0 != 0 && face(memory, twin(e)).0 != 0 && is_wrong(memory, e)
+    face(memory, e) != OUTSIDE && face(memory, e.twin()) != OUTSIDE && is_wrong(memory, e)
 }
 
 // Flips `e` and puts the four sides of its quadrilateral on the list.
-fn turn(memory: &mut [u64], e: EdgeId)
-    requires { length memory.old ≡ total real }
-    ensures is { memory.new ≡ turned real memory.old e.0 }
-    ensures long { length memory.new ≡ total real }
+#[tactic(auto, unfolding(crate::specs::Legalize::turned))]
+fn turn(memory: &mut Memory, e: EdgeId)
+    ensures { memory.new ≡ turned real memory.old e.0 }
 {
     let ab = half_edge(memory, e);
-    let ba = half_edge(memory, twin(e));
+    let ba = half_edge(memory, e.twin());
     flip(memory, e);
     push(memory, ab.next);
     push(memory, ab.prev);
@@ -32,10 +31,9 @@ fn turn(memory: &mut [u64], e: EdgeId)
     push(memory, ba.prev);
 }
 
-fn settle_edge(memory: &mut [u64], e: EdgeId)
-    requires { length memory.old ≡ total real }
-    ensures is { memory.new ≡ settled_edge real memory.old e.0 }
-    ensures long { length memory.new ≡ total real }
+#[tactic(auto, unfolding(crate::specs::Legalize::settled_edge))]
+fn settle_edge(memory: &mut Memory, e: EdgeId)
+    ensures { memory.new ≡ settled_edge real memory.old e.0 }
 {
     if is_to_flip(memory, e) {
         turn(memory, e);
@@ -43,17 +41,13 @@ fn settle_edge(memory: &mut [u64], e: EdgeId)
 }
 
 // Takes edges off the list till it is empty, and flips those that are not right.
-pub fn legalize(memory: &mut [u64])
-    requires { length memory.old ≡ total real }
-    ensures is { memory.new ≡ legalized real memory.old }
-    ensures long { length memory.new ≡ total real }
+pub fn legalize(memory: &mut Memory)
+    ensures { memory.new ≡ legalized real memory.old }
 {
-    let mut left = FUEL;
-    'settling: while left > 0 {
+    'settling: for _ in 0..FUEL {
         let Some(e) = pop(memory) else {
             break 'settling;
         };
         settle_edge(memory, e);
-        left -= 1;
     }
 }

@@ -2,6 +2,7 @@
 #![tactic(auto)]
 
 pub mod insert;
+mod iterate;
 pub mod legalize;
 pub mod locate;
 pub mod location;

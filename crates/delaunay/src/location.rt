@@ -1,7 +1,7 @@
-// Where a point is in a triangulation.
+// Where a point is in a triangulation. NoEdge is a case and not an Option around the others, since all six are told alike.
 use dcel::{EdgeId, VertexId};
 
-#[derive(Clone, Copy)]
+#[derive(Clone, Copy, PartialEq, Eq, Debug)]
 pub enum Location {
     OnVertex(VertexId),
     // Strictly between the ends of an edge.

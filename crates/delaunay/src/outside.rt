@@ -1,75 +1,81 @@
 // A vertex outside the hull.
-ghost use Rattle.std.specs.Prelude.{◌≡◌, length};
+ghost use Rattle.std.specs.Prelude.{◌≡◌};
+ghost use Rattle.std.specs.Option.{option_map};
 ghost use Rattle.exact.specs.Verdicts.{at};
-ghost use Rattle.dcel.specs.Layout.{real, total};
-ghost use Rattle.delaunay.specs.Outside.{ear_listed, all_ahead, all_behind, put_outside};
+ghost use Rattle.dcel.specs.Layout.{real};
+ghost use Rattle.delaunay.specs.Outside.{ear_seen, ear_listed, ears_closed, put_outside};
 
-use crate::places::is_left;
+use crate::places::side;
 use crate::worklist::push_face;
-use dcel::{EdgeId, VertexId, attach, close_ear, half_edges, next, prev};
+use dcel::{EdgeId, Memory, Site, attach, close_ear, half_edges, next, prev};
 use exact::position::Position;
 
 // More ears than any hull has.
 const FUEL: u64 = 98304;
 
+// The two ways along the rim from the vertex: the way its half edges run, and back.
+#[derive(Clone, Copy)]
+enum Way {
+    Ahead,
+    Behind,
+}
+
+// The half edge whose ear is to close, if the vertex sees the next outer half edge: ahead `e`, which leaves the vertex; behind the one before `e`, which comes to it.
+#[tactic(auto, unfolding(crate::specs::Outside::ear_seen))]
+fn ear(memory: &Memory, p: Position, e: EdgeId, way: Way) -> Option<EdgeId>
+    ensures { option_map (λ g. g.0) result ≡ ear_seen real way (at p) memory.now e.0 }
+{
+    let (seen, ear) = match way {
+        Way::Ahead => (next(memory, e), e),
+        Way::Behind => (prev(memory, e), prev(memory, e)),
+    };
+    if side(memory, seen, p).is_left() {
+        Some(ear)
+    } else {
+        None
+    }
+}
+
 // Closes the ear of `e` and the outer half edge after it.
-fn close(memory: &mut [u64], e: EdgeId)
-    requires { length memory.old ≡ total real }
-    ensures is { memory.new ≡ ear_listed real memory.old e.0 }
-    ensures long { length memory.new ≡ total real }
+#[tactic(auto, unfolding(crate::specs::Outside::ear_listed))]
+fn close(memory: &mut Memory, e: EdgeId)
+    ensures { memory.new ≡ ear_listed real memory.old e.0 }
 {
     close_ear(memory, e);
     push_face(memory, e);
 }
 
-// Closes ears from `start`, which leaves the vertex, while it sees the next outer half edge.
-fn close_ahead(memory: &mut [u64], p: Position, start: EdgeId)
-    requires { length memory.old ≡ total real }
-    ensures is { memory.new ≡ all_ahead real (at p) memory.old start.0 }
-    ensures long { length memory.new ≡ total real }
+// Closes ears from `start` while there is one. The way is data, as in the definition; a closure for it would want its contract as a relation.
+fn close_all(memory: &mut Memory, p: Position, start: EdgeId, way: Way)
+    ensures { memory.new ≡ ears_closed real way (at p) memory.old start.0 }
 {
     let mut e = start;
-    let mut left = FUEL;
-    'closing: while left > 0 {
-        let true = is_left(memory, next(memory, e), p) else {
+    'closing: for _ in 0..FUEL {
+        let Some(seen) = ear(memory, p, e, way) else {
             break 'closing;
         };
         let new = half_edges(memory);
-        close(memory, e);
+        close(memory, seen);
         e = EdgeId(new);
-        left -= 1;
     }
 }
 
-// Closes ears back from `start`, which comes to the vertex.
-fn close_behind(memory: &mut [u64], p: Position, start: EdgeId)
-    requires { length memory.old ≡ total real }
-    ensures is { memory.new ≡ all_behind real (at p) memory.old start.0 }
-    ensures long { length memory.new ≡ total real }
-{
-    let mut e = start;
-    let mut left = FUEL;
-    'closing: while left > 0 {
-        let before = prev(memory, e);
-        let true = is_left(memory, before, p) else {
-            break 'closing;
-        };
-        let new = half_edges(memory);
-        close(memory, before);
-        e = EdgeId(new);
-        left -= 1;
-    }
-}
-
-// Puts the point in on the left of the outer half edge `e`.
-pub fn insert_outside(memory: &mut [u64], e: EdgeId, p: Position, data: u64)
-    requires { length memory.old ≡ total real }
-    ensures is { memory.new ≡ put_outside real memory.old e.0 p.x p.y «data» }
-    ensures long { length memory.new ≡ total real }
+// Puts the point in on the left of the outer half edge `e`. It takes a position and not a Site, whose numbers may be large.
+#[tactic(auto, unfolding(crate::specs::Outside::put_outside))]
+pub fn insert_outside(memory: &mut Memory, e: EdgeId, p: Position, data: u64)
+    ensures { memory.new ≡ put_outside real memory.old e.0 p.x p.y «data» }
 {
     let new = half_edges(memory);
-    attach(memory, e, p.x, p.y, data);
+    attach(
+        memory,
+        e,
+        Site {
+            x: p.x,
+            y: p.y,
+            data,
+        },
+    );
     push_face(memory, e);
-    close_ahead(memory, p, EdgeId(new + 1));
-    close_behind(memory, p, EdgeId(new + 3));
+    close_all(memory, p, EdgeId(new + 1), Way::Ahead);
+    close_all(memory, p, EdgeId(new + 3), Way::Behind);
 }

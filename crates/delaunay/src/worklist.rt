@@ -1,30 +1,26 @@
-// The list of edges to look at, linked in memory: none is on it twice.
-ghost use Rattle.std.specs.Prelude.{◌≡◌, ◌≤◌, length};
+// The list of edges to look at: none is on it twice. It is linked in lent memory, since there is no heap, by a rule of the project.
+ghost use Rattle.std.specs.Prelude.{◌≡◌, ◌≤◌};
 ghost use Rattle.std.specs.Option.{option_map};
-ghost use Rattle.dcel.specs.Layout.{real, total};
+ghost use Rattle.dcel.specs.Layout.{real};
 ghost use Rattle.delaunay.specs.Worklist.{head_of, pushed, pushed_face, first_listed, popped};
 
-use dcel::{EdgeId, header, next, prev, set_header, set_worklist, worklist};
+use dcel::{EDGES, EdgeId, Memory, header, next, prev, set_header, set_worklist, worklist};
 
 // The word of the header that has the head of the list.
 const HEAD: u64 = 3;
 
-const EDGES: u64 = 49152;
-
-fn head(memory: &[u64]) -> u64
-    requires { length memory.now ≡ total real }
+#[tactic(auto, unfolding(dcel::specs::Memory::at_most))]
+fn head(memory: &Memory) -> u64
     ensures is { result ≡ head_of real memory.now }
     ensures room { result ≤ 49152 }
 {
-    let first = header(memory, HEAD);
-    if first < EDGES { first } else { EDGES }
+    header(memory, HEAD).min(EDGES)
 }
 
 // Puts the edge of `e` on the list, unless it is there.
-pub fn push(memory: &mut [u64], e: EdgeId)
-    requires { length memory.old ≡ total real }
-    ensures is { memory.new ≡ pushed real memory.old e.0 }
-    ensures long { length memory.new ≡ total real }
+#[tactic(auto, unfolding(crate::specs::Worklist::pushed))]
+pub fn push(memory: &mut Memory, e: EdgeId)
+    ensures { memory.new ≡ pushed real memory.old e.0 }
 {
     let i = e.0 / 2;
     if worklist(memory, i) == 0 {
@@ -35,10 +31,9 @@ pub fn push(memory: &mut [u64], e: EdgeId)
 }
 
 // Puts the three edges of the face of `e` on the list.
-pub fn push_face(memory: &mut [u64], e: EdgeId)
-    requires { length memory.old ≡ total real }
-    ensures is { memory.new ≡ pushed_face real memory.old e.0 }
-    ensures long { length memory.new ≡ total real }
+#[tactic(auto, unfolding(crate::specs::Worklist::pushed_face))]
+pub fn push_face(memory: &mut Memory, e: EdgeId)
+    ensures { memory.new ≡ pushed_face real memory.old e.0 }
 {
     let n = next(memory, e);
     let q = prev(memory, e);
@@ -48,11 +43,10 @@ pub fn push_face(memory: &mut [u64], e: EdgeId)
 }
 
 // Takes an edge off the list.
-pub fn pop(memory: &mut [u64]) -> Option<EdgeId>
-    requires { length memory.old ≡ total real }
+#[tactic(auto, unfolding(crate::specs::Worklist::first_listed, crate::specs::Worklist::popped))]
+pub fn pop(memory: &mut Memory) -> Option<EdgeId>
     ensures is { memory.new ≡ popped real memory.old }
     ensures edge { option_map (λ e. e.0) result ≡ first_listed real memory.old }
-    ensures long { length memory.new ≡ total real }
 {
     let first = head(memory);
     if first == 0 {

@@ -1,7 +1,8 @@
 -- Lists by number, t 0 to t (n - 1): what is true of one number at most is counted once at most, and triangles that differ by number are not listed twice.
 use Rattle.std.proofs.Common.{◌≡◌, ℕ, zero, suc, ◌+◌, ◌<◌, ◌≤◌, Bool, true, false, not, ◌⊎◌, List, [], ◌∷◌, ◌++◌, sym, refl, ap, ◌∙◌, ap₂, inl, inr, arith}
 use Rattle.exact.specs.Plane.{any, each, up_to, Vertex, vertex_at, Tri, same_tri, no_twice}
-use Rattle.exact.proofs.Booleans.{bit, bit_≤1, either, is_false, and_left, and_right, and←, not→, not←}
+use Rattle.std.proofs.lemmas.Bool.{cases_Bool, false_from_ne_true, and_from, not-true, not_from_false}
+use Rattle.exact.proofs.Booleans.{bit, bit_≤1, and_left, and_right}
 use Rattle.exact.proofs.Sums.{count_end}
 use Rattle.exact.proofs.Lists.{In, any_false→, any_false←, in_append, each_in, up_to→, count, count_none}
 
@@ -42,12 +43,12 @@ module _ {A : Type 0} (f : A → Bool) (t : ℕ → A) where
   pub count_≤1 : (n : ℕ) → ((i j : ℕ) → i < n → j < n → f (t i) ≡ true → f (t j) ≡ true → i ≡ j) → count f (each t (up_to n)) ≤ 1
   unfolding count each up_to
   count_≤1 zero h = omega arith
-  count_≤1 (suc n) h = go (count_≤1 n (λ i j k l. h i j (omega arith) (omega arith))) (either (f (t n)))
+  count_≤1 (suc n) h = go (count_≤1 n (λ i j k l. h i j (omega arith) (omega arith))) (cases_Bool (f (t n)))
     where
       none : f (t n) ≡ true → (a : A) → In a (each t (up_to n)) → f a ≡ false
       none e a m =
           let r = each_in t (up_to n) a m in let l = up_to→ n r.0 r.1 in
-          is_false (f a) (λ q. omega (arith, l, h r.0 n (omega (arith, l)) (omega arith) (sym (ap f r.2) ∙ q) e))
+          false_from_ne_true (f a) (λ q. omega (arith, l, h r.0 n (omega (arith, l)) (omega arith) (sym (ap f r.2) ∙ q) e))
 
       go : count f (each t (up_to n)) ≤ 1 → (f (t n) ≡ true) ⊎ (f (t n) ≡ false) → count f (each t (up_to (suc n))) ≤ 1
       go ih (inl e) = omega (arith, count_more n, count_none f (each t (up_to n)) (none e), bit_≤1 (f (t n)))
@@ -59,9 +60,9 @@ unfolding no_twice any
 no_twice_more [] t h k = refl
 no_twice_more (u ∷ l) t h k =
     let none = any (same_tri u) l in
-    and← (not (any (same_tri u) (l ++ t ∷ []))) (no_twice (l ++ t ∷ [])) (not← (any (same_tri u) (l ++ t ∷ [])) (any_false← (same_tri u) (l ++ t ∷ []) (λ v i.
+    and_from (not (any (same_tri u) (l ++ t ∷ []))) (no_twice (l ++ t ∷ [])) (not_from_false (any (same_tri u) (l ++ t ∷ [])) (any_false← (same_tri u) (l ++ t ∷ []) (λ v i.
     elim (in_append v l (t ∷ []) i) [
-      | inl j ↦ any_false→ (same_tri u) l (not→ none (and_left (not none) (no_twice l) h)) v j
+      | inl j ↦ any_false→ (same_tri u) l (not-true none (and_left (not none) (no_twice l) h)) v j
       | inr j ↦ elim j [ inl q ↦ ap (same_tri u) q ∙ k u (inl refl) | inr q ↦ absurd q ]
     ]))) (no_twice_more l t (and_right (not none) (no_twice l) h) (λ v i. k v (inr i)))
 
@@ -71,4 +72,4 @@ no_twice_each t zero h = refl
 no_twice_each t (suc n) h =
     ap no_twice (each_more t n) ∙ no_twice_more (each t (up_to n)) (t n) (no_twice_each t n (λ i j k l. h i j (omega arith) (omega arith))) (λ u i.
     let r = each_in t (up_to n) u i in let l = up_to→ n r.0 r.1 in
-    is_false (same_tri u (t n)) (λ q. omega (arith, l, h r.0 n (omega (arith, l)) (omega arith) (sym (ap (λ (v : Tri). same_tri v (t n)) r.2) ∙ q))))
+    false_from_ne_true (same_tri u (t n)) (λ q. omega (arith, l, h r.0 n (omega (arith, l)) (omega arith) (sym (ap (λ (v : Tri). same_tri v (t n)) r.2) ∙ q))))

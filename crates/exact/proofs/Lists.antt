@@ -1,8 +1,8 @@
 -- Lists: being in one, and what `every`, `any`, `those`, `each`, `up_to`, `◌++◌` and counting say of the elements.
-use Rattle.std.proofs.Common.{◌≡◌, ℕ, zero, suc, ◌+◌, ◌<◌, ◌≤◌, Bool, true, false, ◌&&◌, eqb, ◌⊎◌, List, [], ◌∷◌, ◌++◌, length, sym, refl, ap, ◌∙◌, ap₂, inl, inr, true≢false, arith}
-use mathlib.Core.Bool.{false≢true}
+use Rattle.std.proofs.Common.{◌≡◌, ℕ, zero, suc, ◌+◌, ◌<◌, ◌≤◌, Bool, true, false, ◌&&◌, eqb, ◌⊎◌, List, [], ◌∷◌, ◌++◌, length, length-append, sym, refl, ap, ◌∙◌, ap₂, inl, inr, true≢false, arith}
+use Rattle.std.proofs.lemmas.Bool.{false≢true, cases_Bool, false_from_ne_true, and_from, eqb-true, eqb-false}
 use Rattle.exact.specs.Plane.{pick, every, any, those, each, none_of, up_to}
-use Rattle.exact.proofs.Booleans.{bit, bit_≤1, bit_mono, either, true_false, is_false, and_left, and_right, and←, or→, or_left, or_right, eqb→, eqb_false→}
+use Rattle.exact.proofs.Booleans.{bit, bit_≤1, bit_mono, true_false, and_left, and_right, or→, or_left, or_right}
 
 abbrev pub In : {A : Type 0} → A → List A → Type 0
 In a [] = ⊥
@@ -18,7 +18,7 @@ every→ f (x ∷ l) e a (inr i) = every→ f l (and_right (f x) (every f l) e) 
 pub every← : {A : Type 0} (f : A → Bool) (l : List A) → ((a : A) → In a l → f a ≡ true) → every f l ≡ true
 unfolding every
 every← f [] h = refl
-every← f (x ∷ l) h = and← (f x) (every f l) (h x (inl refl)) (every← f l (λ a i. h a (inr i)))
+every← f (x ∷ l) h = and_from (f x) (every f l) (h x (inl refl)) (every← f l (λ a i. h a (inr i)))
 
 pub any→ : {A : Type 0} (f : A → Bool) (l : List A) → any f l ≡ true → (a : A) × In a l × (f a ≡ true)
 unfolding any
@@ -36,10 +36,10 @@ any← f (x ∷ l) a (inl p) e = or_left (f x) (any f l) (sym (ap f p) ∙ e)
 any← f (x ∷ l) a (inr i) e = or_right (f x) (any f l) (any← f l a i e)
 
 pub any_false→ : {A : Type 0} (f : A → Bool) (l : List A) → any f l ≡ false → (a : A) → In a l → f a ≡ false
-any_false→ f l e a i = is_false (f a) (λ p. true_false (any f l) (any← f l a i p) e)
+any_false→ f l e a i = false_from_ne_true (f a) (λ p. true_false (any f l) (any← f l a i p) e)
 
 pub any_false← : {A : Type 0} (f : A → Bool) (l : List A) → ((a : A) → In a l → f a ≡ false) → any f l ≡ false
-any_false← f l h = is_false (any f l) (λ e. let r = any→ f l e in true_false (f r.0) r.2 (h r.0 r.1))
+any_false← f l h = false_from_ne_true (any f l) (λ e. let r = any→ f l e in true_false (f r.0) r.2 (h r.0 r.1))
 
 pub every_false→ : {A : Type 0} (f : A → Bool) (l : List A) → every f l ≡ false → (a : A) × In a l × (f a ≡ false)
 unfolding every
@@ -84,11 +84,11 @@ each_in f (x ∷ l) b (inr i) = let r = each_in f l b i in (r.0, inr r.1, r.2)
 pub up_to← : (n i : ℕ) → i < n → In i (up_to n)
 unfolding up_to
 up_to← zero i h = absurd (omega arith)
-up_to← (suc n) i h = go (either (eqb i n)) (λ l. up_to← n i l)
+up_to← (suc n) i h = go (cases_Bool (eqb i n)) (λ l. up_to← n i l)
   where
     go : (eqb i n ≡ true) ⊎ (eqb i n ≡ false) → (i < n → In i (up_to n)) → In i (up_to n ++ n ∷ [])
-    go (inl e) r = in_right i (up_to n) (n ∷ []) (inl (eqb→ i n e))
-    go (inr e) r = in_left i (up_to n) (n ∷ []) (r (omega (arith, eqb_false→ i n e)))
+    go (inl e) r = in_right i (up_to n) (n ∷ []) (inl (eqb-true i n e))
+    go (inr e) r = in_left i (up_to n) (n ∷ []) (r (omega (arith, eqb-false i n e)))
 
 pub up_to→ : (n i : ℕ) → In i (up_to n) → i < n
 unfolding up_to
@@ -167,11 +167,7 @@ unfolding each
 each_length f [] = refl
 each_length f (x ∷ l) = ap suc (each_length f l)
 
-one_more : {A : Type 0} (l : List A) (a : A) → length (l ++ a ∷ []) ≡ suc (length l)
-one_more [] a = refl
-one_more (x ∷ l) a = ap suc (one_more l a)
-
 pub up_to_length : (n : ℕ) → length (up_to n) ≡ n
 unfolding up_to
 up_to_length zero = refl
-up_to_length (suc n) = one_more (up_to n) n ∙ ap suc (up_to_length n)
+up_to_length (suc n) = omega (arith, length-append (up_to n) (n ∷ []), up_to_length n)

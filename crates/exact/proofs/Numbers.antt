@@ -1,31 +1,8 @@
--- Numbers with a sign: their products, and how far these go.
-use Rattle.std.proofs.Common.{◌≡◌, ℕ, suc, ◌+◌, ◌-◌, ◌*◌, ◌^◌, ◌<◌, ◌≤◌, Bool, true, false, not, ltb, ℤ, pos, negsuc, ◌-ℤ◌, ◌*ℤ◌, neg_ℤ, nat_abs, ◌≤ℤ◌, sym, refl, ap, ◌∙◌, ap₂, mul_comm, mul-le-mul, arith, w64, SFits, to_z, of_z}
-use mathlib.Core.Bool.{beq}
-use lib.IntN.{neg_ℤ-neg_ℤ, *ℤ_comm}
-use lib.Signed.{lt_z}
+-- Products of words with a sign: how far they go, and the difference of two.
+use Rattle.std.proofs.Common.{◌≡◌, suc, ◌+◌, ◌-◌, ◌*◌, ◌^◌, ◌<◌, ◌≤◌, ℤ, pos, negsuc, ◌-ℤ◌, ◌*ℤ◌, ◌≤ℤ◌, ◌∙◌, ap₂, mul-le-mul, arith, w64, SFits, to_z, of_z}
 use mir.Syntax.{w128}
-use borrow.Author.Differences.{ints, up, down}
-use Rattle.std.proofs.lemmas.Int.{to_z-of_z}
-use Rattle.std.proofs.lemmas.Bool.Decides.{nat_tests}
-use Rattle.exact.specs.Signed.{signed}
-use Rattle.exact.proofs.Algebra.Integers.{neg_ℤ-*ℤ}
-
-neg_right : (a b : ℕ) → neg_ℤ (pos (a * b)) ≡ pos a *ℤ neg_ℤ (pos b)
-neg_right a b = ap (λ (n : ℕ). neg_ℤ (pos n)) (mul_comm a b) ∙ sym (neg_ℤ-*ℤ (pos b) (pos a)) ∙ *ℤ_comm (neg_ℤ (pos b)) (pos a)
-
-pub signed_times : (p q : Bool) (a b : ℕ) → signed (not (beq p q)) (a * b) ≡ signed p a *ℤ signed q b
-signed_times true true a b =
-    sym (neg_ℤ-neg_ℤ (pos (a * b))) ∙ ap neg_ℤ (neg_right a b) ∙ sym (neg_ℤ-*ℤ (pos a) (neg_ℤ (pos b)))
-signed_times true false a b = sym (neg_ℤ-*ℤ (pos a) (pos b))
-signed_times false true a b = neg_right a b
-signed_times false false a b = refl
-
-pub product_bound : (n a b : ℕ) → n ≡ a * b → (k j : ℕ) → a ≤ k → b ≤ j → n ≤ k * j
-product_bound n a b e k j p q = let h : a * b ≤ k * j = mul-le-mul p q in omega arith
-
-pub signed_natAbs : (z : ℤ) → signed (lt_z z (pos 0)) (nat_abs z) ≡ z
-signed_natAbs (pos n) = let e : ltb n 0 ≡ false = grind (arith, nat_tests) in rw e refl
-signed_natAbs (negsuc n) = refl
+use borrow.Author.Differences.{up, down}
+use Rattle.std.proofs.lemmas.Int.{ints, to_z-of_z}
 
 -- a word with a sign, times another
 pub product_ends : (a b : ℤ) → SFits w64 a → SFits w64 b →

@@ -1,7 +1,8 @@
 -- A strict order on finitely many numbers has no endless ascent: there is a last one of those with P, unless there is none.
 use Rattle.std.proofs.Common.{◌≡◌, ℕ, zero, suc, ◌<◌, Bool, true, false, ◌⊎◌, sym, subst, inl, inr, arith}
-use native.Mathlib.Decide.{ℕ_discrete}
-use Rattle.exact.proofs.Booleans.{either, true_false, is_false}
+use Rattle.std.proofs.Math.Decide.{ℕ_discrete}
+use Rattle.std.proofs.lemmas.Bool.{cases_Bool, false_from_ne_true}
+use Rattle.exact.proofs.Booleans.{true_false}
 
 -- what holds below n and at n holds below suc n
 one_more : (Q : ℕ → Type 0) (n : ℕ) → ((l : ℕ) → l < n → Q l) → Q n → (l : ℕ) → l < suc n → Q l
@@ -19,7 +20,7 @@ module _ (P : ℕ → Bool) (r : ℕ → ℕ → Bool) (irreflexive : (i : ℕ) 
 
   none_or_last : (n : ℕ) → ((l : ℕ) → l < n → P l ≡ false) ⊎ Last n
   none_or_last zero = inl (λ l h. absurd (omega arith))
-  none_or_last (suc n) = go (none_or_last n) (either (P n))
+  none_or_last (suc n) = go (none_or_last n) (cases_Bool (P n))
     where
       -- n has P; it is after the last so far, or not
       more : (x : Last n) → P n ≡ true → (r x.it n ≡ true) ⊎ (r x.it n ≡ false) → Last (suc n)
@@ -27,14 +28,14 @@ module _ (P : ℕ → Bool) (r : ℕ → ℕ → Bool) (irreflexive : (i : ℕ) 
         it = n;
         below = omega arith;
         holds = e;
-        none_after = one_more (Dead n) n (λ l h q. is_false (r n l) (λ b. true_false (r x.it l) (transitive x.it n l x.holds e q a b) (x.none_after l h q))) (λ _. irreflexive n);
+        none_after = one_more (Dead n) n (λ l h q. false_from_ne_true (r n l) (λ b. true_false (r x.it l) (transitive x.it n l x.holds e q a b) (x.none_after l h q))) (λ _. irreflexive n);
       }
       more x e (inr a) = record { it = x.it; below = omega (arith, x.below); holds = x.holds; none_after = one_more (Dead x.it) n x.none_after (λ _. a) }
 
       go : ((l : ℕ) → l < n → P l ≡ false) ⊎ Last n → (P n ≡ true) ⊎ (P n ≡ false) → ((l : ℕ) → l < suc n → P l ≡ false) ⊎ Last (suc n)
       go (inl f) (inl e) = inr (record { it = n; below = omega arith; holds = e; none_after = one_more (Dead n) n (λ l h q. absurd (true_false (P l) q (f l h))) (λ _. irreflexive n) })
       go (inl f) (inr e) = inl (one_more (λ l. P l ≡ false) n f e)
-      go (inr x) (inl e) = inr (more x e (either (r x.it n)))
+      go (inr x) (inl e) = inr (more x e (cases_Bool (r x.it n)))
       go (inr x) (inr e) = inr (record { it = x.it; below = omega (arith, x.below); holds = x.holds; none_after = one_more (Dead x.it) n x.none_after (λ q. absurd (true_false (P n) q e)) })
 
   -- none has P, if each that has it is before another

@@ -1,6 +1,7 @@
 -- A list of different numbers below n is no longer than n.
 use Rattle.std.proofs.Common.{◌≡◌, ℕ, ◌+◌, ◌<◌, ◌≤◌, true, false, eqb, ◌⊎◌, List, [], ◌∷◌, length, sym, refl, ap, ◌∙◌, subst, inl, inr, arith}
-use Rattle.exact.proofs.Booleans.{bit, bit_≤1, either, is_false, eqb→}
+use Rattle.std.proofs.lemmas.Bool.{cases_Bool, false_from_ne_true, eqb-true}
+use Rattle.exact.proofs.Booleans.{bit, bit_≤1}
 use Rattle.exact.proofs.Lists.{In, count, count_none}
 use Rattle.exact.proofs.Sums.{sum_mono, sum_const, count_by}
 
@@ -11,11 +12,11 @@ Different (x ∷ l) = (In x l → ⊥) × Different l
 once_at_most : (i : ℕ) (l : List ℕ) → Different l → count (eqb i) l ≤ 1
 unfolding count
 once_at_most i [] d = omega arith
-once_at_most i (x ∷ l) d = go (either (eqb i x)) (once_at_most i l d.1)
+once_at_most i (x ∷ l) d = go (cases_Bool (eqb i x)) (once_at_most i l d.1)
   where
     go : (eqb i x ≡ true) ⊎ (eqb i x ≡ false) → count (eqb i) l ≤ 1 → bit (eqb i x) + count (eqb i) l ≤ 1
     go (inl e) r =
-        let none = count_none (eqb i) l (λ a j. is_false (eqb i a) (λ q. d.0 (subst (λ (k : ℕ). In k l) (sym (eqb→ i a q) ∙ eqb→ i x e) j))) in
+        let none = count_none (eqb i) l (λ a j. false_from_ne_true (eqb i a) (λ q. d.0 (subst (λ (k : ℕ). In k l) (sym (eqb-true i a q) ∙ eqb-true i x e) j))) in
         omega (arith, bit_≤1 (eqb i x), none)
     go (inr e) r = omega (arith, ap bit e)
 

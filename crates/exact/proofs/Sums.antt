@@ -2,7 +2,8 @@
 use Rattle.std.proofs.Common.{◌≡◌, ℕ, zero, suc, ◌+◌, ◌*◌, ◌<◌, ◌≤◌, Bool, true, false, ◌&&◌, eqb, ◌⊎◌, List, [], ◌∷◌, ◌++◌, sym, refl, ap, ◌∙◌, ap₂, inl, inr, arith}
 use Rattle.exact.specs.Plane.{up_to}
 use Rattle.exact.specs.Sums.{sum}
-use Rattle.exact.proofs.Booleans.{bit, either, eqb→, eqb←, eqb_false→, eqb_false←}
+use Rattle.std.proofs.lemmas.Bool.{cases_Bool, eqb-true, eq-eqb, eqb-false, ne_eqb}
+use Rattle.exact.proofs.Booleans.{bit}
 use Rattle.exact.proofs.Lists.{In, count}
 
 pub sum_same : (f g : ℕ → ℕ) (n : ℕ) → ((i : ℕ) → i < n → f i ≡ g i) → sum f n ≡ sum g n
@@ -41,11 +42,11 @@ only i j c = bit (eqb i j) * c
 
 pub only_same : (i j c : ℕ) → i ≡ j → only i j c ≡ c
 unfolding only
-only_same i j c e = ap (λ (b : Bool). bit b * c) (eqb← i j e) ∙ omega arith
+only_same i j c e = ap (λ (b : Bool). bit b * c) (eq-eqb i j e) ∙ omega arith
 
 pub only_other : (i j c : ℕ) → ¬ (i ≡ j) → only i j c ≡ 0
 unfolding only
-only_other i j c f = ap (λ (b : Bool). bit b * c) (eqb_false← i j f) ∙ omega arith
+only_other i j c f = ap (λ (b : Bool). bit b * c) (ne_eqb i j f) ∙ omega arith
 
 only_one : (i j : ℕ) → only i j 1 ≡ bit (eqb i j)
 unfolding only
@@ -54,26 +55,26 @@ only_one i j = omega arith
 pub sum_only : (j c n : ℕ) → j < n → sum (λ i. only i j c) n ≡ c
 unfolding sum
 sum_only j c zero l = absurd (omega arith)
-sum_only j c (suc n) l = go (λ m. sum_only j c n m) (either (eqb n j))
+sum_only j c (suc n) l = go (λ m. sum_only j c n m) (cases_Bool (eqb n j))
   where
     go : (j < n → sum (λ i. only i j c) n ≡ c) → (eqb n j ≡ true) ⊎ (eqb n j ≡ false) → only n j c + sum (λ i. only i j c) n ≡ c
-    go rest (inl e) = let p = eqb→ n j e in omega (arith, only_same n j c p, sum_zero (λ i. only i j c) n (λ i m. only_other i j c (λ q. omega arith)))
-    go rest (inr e) = let p = eqb_false→ n j e in omega (arith, only_other n j c p, rest (omega arith))
+    go rest (inl e) = let p = eqb-true n j e in omega (arith, only_same n j c p, sum_zero (λ i. only i j c) n (λ i m. only_other i j c (λ q. omega arith)))
+    go rest (inr e) = let p = eqb-false n j e in omega (arith, only_other n j c p, rest (omega arith))
 
 -- ---- one place, two places
 pub sum_one : (f : ℕ → ℕ) (n i : ℕ) → i < n → f i ≤ sum f n
-sum_one f n i l = omega (arith, sum_only i (f i) n l, sum_mono (λ k. only k i (f i)) f n (λ k m. below k (either (eqb k i))))
+sum_one f n i l = omega (arith, sum_only i (f i) n l, sum_mono (λ k. only k i (f i)) f n (λ k m. below k (cases_Bool (eqb k i))))
   where
     below : (k : ℕ) → (eqb k i ≡ true) ⊎ (eqb k i ≡ false) → only k i (f i) ≤ f k
-    below k (inl e) = let p = eqb→ k i e in omega (arith, only_same k i (f i) p, ap f p)
-    below k (inr e) = omega (arith, only_other k i (f i) (eqb_false→ k i e))
+    below k (inl e) = let p = eqb-true k i e in omega (arith, only_same k i (f i) p, ap f p)
+    below k (inr e) = omega (arith, only_other k i (f i) (eqb-false k i e))
 
 -- two sums that differ at two places
 pub sum_two_less : (f g : ℕ → ℕ) (n i j : ℕ) → i < n → j < n → ¬ (i ≡ j) → ((k : ℕ) → k < n → ¬ (k ≡ i) → ¬ (k ≡ j) → g k ≡ f k) → g i + g j < f i + f j → sum g n < sum f n
 sum_two_less f g n i j li lj ne same less =
     omega (
       arith,
-      sum_same (λ k. g k + only k i (f i) + only k j (f j)) (λ k. f k + only k i (g i) + only k j (g j)) n (λ k l. at k l (either (eqb k i)) (either (eqb k j))),
+      sum_same (λ k. g k + only k i (f i) + only k j (f j)) (λ k. f k + only k i (g i) + only k j (g j)) n (λ k l. at k l (cases_Bool (eqb k i)) (cases_Bool (eqb k j))),
       sum_plus (λ k. g k + only k i (f i)) (λ k. only k j (f j)) n,
       sum_plus g (λ k. only k i (f i)) n,
       sum_plus (λ k. f k + only k i (g i)) (λ k. only k j (g j)) n,
@@ -85,10 +86,10 @@ sum_two_less f g n i j li lj ne same less =
     )
   where
     at : (k : ℕ) → k < n → (eqb k i ≡ true) ⊎ (eqb k i ≡ false) → (eqb k j ≡ true) ⊎ (eqb k j ≡ false) → g k + only k i (f i) + only k j (f j) ≡ f k + only k i (g i) + only k j (g j)
-    at k l (inl e) (inl d) = absurd (ne (sym (eqb→ k i e) ∙ eqb→ k j d))
-    at k l (inl e) (inr d) = let p = eqb→ k i e in let q = eqb_false→ k j d in omega (arith, ap f p, ap g p, only_same k i (f i) p, only_same k i (g i) p, only_other k j (f j) q, only_other k j (g j) q)
-    at k l (inr e) (inl d) = let p = eqb_false→ k i e in let q = eqb→ k j d in omega (arith, ap f q, ap g q, only_same k j (f j) q, only_same k j (g j) q, only_other k i (f i) p, only_other k i (g i) p)
-    at k l (inr e) (inr d) = let p = eqb_false→ k i e in let q = eqb_false→ k j d in omega (arith, same k l p q, only_other k i (f i) p, only_other k i (g i) p, only_other k j (f j) q, only_other k j (g j) q)
+    at k l (inl e) (inl d) = absurd (ne (sym (eqb-true k i e) ∙ eqb-true k j d))
+    at k l (inl e) (inr d) = let p = eqb-true k i e in let q = eqb-false k j d in omega (arith, ap f p, ap g p, only_same k i (f i) p, only_same k i (g i) p, only_other k j (f j) q, only_other k j (g j) q)
+    at k l (inr e) (inl d) = let p = eqb-false k i e in let q = eqb-true k j d in omega (arith, ap f q, ap g q, only_same k j (f j) q, only_same k j (g j) q, only_other k i (f i) p, only_other k i (g i) p)
+    at k l (inr e) (inr d) = let p = eqb-false k i e in let q = eqb-false k j d in omega (arith, same k l p q, only_other k i (f i) p, only_other k i (g i) p, only_other k j (f j) q, only_other k j (g j) q)
 
 -- ---- counting a list
 pub count_end : {A : Type 0} (f : A → Bool) (l : List A) (x : A) → count f (l ++ x ∷ []) ≡ bit (f x) + count f l

@@ -1,24 +1,12 @@
 -- Products of short vectors fit a word, and so do the sum and the difference of two.
-use Rattle.std.proofs.Common.{◌≡◌, ℕ, zero, suc, ◌+◌, ◌-◌, ◌*◌, ◌^◌, ◌<◌, ◌≤◌, ℤ, pos, negsuc, ◌+ℤ◌, ◌-ℤ◌, ◌*ℤ◌, neg_ℤ, nat_abs, refl, mul-le-mul, arith, w64, Fits, SFits, to_z, of_z}
-use borrow.Author.Differences.{ints}
-use Rattle.std.proofs.lemmas.Int.{to_z-of_z}
-
-natAbs_neg : (z : ℤ) → nat_abs (neg_ℤ z) ≡ nat_abs z
-natAbs_neg (pos zero) = refl
-natAbs_neg (pos (suc n)) = refl
-natAbs_neg (negsuc n) = refl
-
-natAbs_times : (a b : ℤ) → nat_abs (a *ℤ b) ≡ nat_abs a * nat_abs b
-natAbs_times (pos a) (pos b) = refl
-natAbs_times (pos a) (negsuc b) = natAbs_neg (pos (a * suc b))
-natAbs_times (negsuc a) (pos b) = natAbs_neg (pos (suc a * b))
-natAbs_times (negsuc a) (negsuc b) = refl
+use Rattle.std.proofs.Common.{◌≡◌, ℕ, ◌+◌, ◌-◌, ◌*◌, ◌^◌, ◌<◌, ◌≤◌, ℤ, ◌+ℤ◌, ◌-ℤ◌, ◌*ℤ◌, nat_abs, mul-le-mul, arith, w64, Fits, SFits, to_z, of_z}
+use Rattle.std.proofs.lemmas.Int.{ints, to_z-of_z, unsigned_abs-mul}
 
 short_times : (a b : ℤ) → nat_abs a < 2 ^ 20 → nat_abs b < 2 ^ 20 → nat_abs (a *ℤ b) < 2 ^ 40
 short_times a b f g =
     let p : nat_abs a ≤ 2 ^ 20 - 1 = omega arith in let q : nat_abs b ≤ 2 ^ 20 - 1 = omega arith in
     let h : nat_abs a * nat_abs b ≤ (2 ^ 20 - 1) * (2 ^ 20 - 1) = mul-le-mul p q in
-    omega (arith, natAbs_times a b)
+    omega (arith, unsigned_abs-mul a b)
 
 -- two squares, of numbers without a sign
 pub squares_fit : (a b : ℕ) → a < 2 ^ 20 → b < 2 ^ 20 → Fits w64 (a * a + b * b)

@@ -1,15 +1,14 @@
 -- What a sign tells of a difference.
-use Rattle.std.proofs.Common.{◌≡◌, Bool, true, false, not, ◌&&◌, ℤ, pos, ◌-ℤ◌, ◌*ℤ◌, sym, refl, ◌∙◌, arith, w64, SFits}
-use lib.Signed.{lt_z}
-use borrow.Author.Differences.{ints}
-use Rattle.std.proofs.lemmas.Int.{to_z-of_z}
+use Rattle.std.proofs.Common.{◌≡◌, Bool, true, false, not, ◌&&◌, sym, ℤ, pos, ◌-ℤ◌, ◌*ℤ◌, refl, ◌∙◌, arith, w64, SFits}
+use Rattle.std.specs.Int.Signed.{lt_z}
+use Rattle.std.proofs.lemmas.Int.{ints, to_z-of_z}
 use Rattle.std.proofs.lemmas.Bool.Decides.{nat_tests}
 use Rattle.exact.specs.Plane.{Diff, above_0, below_0, pick}
 use Rattle.exact.specs.Signed.{sign_of}
 use Rattle.exact.specs.Verdicts.{by_sign, side_told, circle_told, right?, left?, on?, inside?}
+use Rattle.exact.specs.declared.signed.Sign.TheVariants.{Negative, Zero, Positive}
 use Rattle.exact.specs.declared.verdict.Side.TheVariants as s
 use Rattle.exact.specs.declared.verdict.Circle.TheVariants as o
-use Rattle.exact.specs.declared.signed.Sign.TheVariants.{Negative, Zero, Positive}
 use Rattle.exact.proofs.Algebra.Integers.{value, value_is}
 use Rattle.exact.proofs.Vectors.{passed}
 

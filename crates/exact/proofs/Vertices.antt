@@ -1,7 +1,8 @@
 -- Vertices by their numbers, and triangles of three numbers: reading `vertex_at`, `all_apart`, `same_tri` and `goes`, and a triangle from each of its corners.
 use Rattle.std.proofs.Common.{◌≡◌, ℕ, zero, suc, ◌<◌, Bool, true, not, ◌&&◌, eqb, ◌⊎◌, List, [], ◌∷◌, length, sym, refl, ap, ◌∙◌, subst, inl, inr, arith}
 use Rattle.exact.specs.Plane.{or, every, any, Point, Vertex, vertex_at, spot, all_apart, same_spot, Tri, same_tri, goes}
-use Rattle.exact.proofs.Booleans.{true_false, is_false, and_left, and_right, and←, and3→, and3←, or→, or_left, or_right, not→, not←, eqb→, eqb←, eqb_same}
+use Rattle.std.proofs.lemmas.Bool.{false_from_ne_true, and_from, not-true, not_from_false, eqb-true, eq-eqb}
+use Rattle.exact.proofs.Booleans.{true_false, and_left, and_right, and3→, and3←, or→, or_left, or_right, eqb_same}
 use Rattle.exact.proofs.Lists.{In, any→, any←, any_false→, any_false←}
 use Rattle.exact.proofs.Geometry.Words.{Site}
 
@@ -22,7 +23,7 @@ vertex_number (u ∷ vs) v (inr i) = let r = vertex_number vs v i in (suc r.0, o
 pub spot_whole : (vs : List Vertex) → every (λ v. eqb v.at.w 1) vs ≡ true → (i : ℕ) → (spot vs i).w ≡ 1
 unfolding vertex_at every
 spot_whole [] e i = refl
-spot_whole (v ∷ vs) e zero = eqb→ v.at.w 1 (and_left (eqb v.at.w 1) (every (λ v. eqb v.at.w 1) vs) e)
+spot_whole (v ∷ vs) e zero = eqb-true v.at.w 1 (and_left (eqb v.at.w 1) (every (λ v. eqb v.at.w 1) vs) e)
 spot_whole (v ∷ vs) e (suc i) = spot_whole vs (and_right (eqb v.at.w 1) (every (λ v. eqb v.at.w 1) vs) e) i
 
 abbrev pub site : (vs : List Vertex) → ((i : ℕ) → (spot vs i).w ≡ 1) → ℕ → Site
@@ -31,13 +32,13 @@ site vs h i = record { at = spot vs i; whole = h i }
 pub same_spot_swap : (p q : Point) → same_spot p q ≡ true → same_spot q p ≡ true
 same_spot_swap p q e =
     let x? = eqb p.x q.x in let y? = eqb p.y q.y in
-    and← (eqb q.x p.x) (eqb q.y p.y) (eqb← q.x p.x (sym (eqb→ p.x q.x (and_left x? y? e)))) (eqb← q.y p.y (sym (eqb→ p.y q.y (and_right x? y? e))))
+    and_from (eqb q.x p.x) (eqb q.y p.y) (eq-eqb q.x p.x (sym (eqb-true p.x q.x (and_left x? y? e)))) (eq-eqb q.y p.y (sym (eqb-true p.y q.y (and_right x? y? e))))
 
 -- vertices at the same spot have the same number
 no_other : (v : Vertex) (vs : List Vertex) → not (any (λ u. same_spot v.at u.at) vs) && all_apart vs ≡ true → (j : ℕ) → j < length vs → same_spot v.at (spot vs j) ≡ true → ⊥
 no_other v vs h j l e =
     let others = any (λ u. same_spot v.at u.at) vs in
-    true_false (same_spot v.at (spot vs j)) e (any_false→ (λ u. same_spot v.at u.at) vs (not→ others (and_left (not others) (all_apart vs) h)) (vertex_at vs j) (vertex_in vs j l))
+    true_false (same_spot v.at (spot vs j)) e (any_false→ (λ u. same_spot v.at u.at) vs (not-true others (and_left (not others) (all_apart vs) h)) (vertex_at vs j) (vertex_in vs j l))
 
 pub same_number : (vs : List Vertex) → all_apart vs ≡ true → (i j : ℕ) → i < length vs → j < length vs → same_spot (spot vs i) (spot vs j) ≡ true → i ≡ j
 unfolding all_apart vertex_at
@@ -52,8 +53,8 @@ pub all_apart← : (vs : List Vertex) → ((i j : ℕ) → i < length vs → j <
 unfolding all_apart vertex_at
 all_apart← [] h = refl
 all_apart← (v ∷ vs) h =
-    and← (not (any (λ u. same_spot v.at u.at) vs)) (all_apart vs)
-    (not← (any (λ u. same_spot v.at u.at) vs) (any_false← (λ u. same_spot v.at u.at) vs (λ u i. is_false (same_spot v.at u.at) (λ e.
+    and_from (not (any (λ u. same_spot v.at u.at) vs)) (all_apart vs)
+    (not_from_false (any (λ u. same_spot v.at u.at) vs) (any_false← (λ u. same_spot v.at u.at) vs (λ u i. false_from_ne_true (same_spot v.at u.at) (λ e.
     let r = vertex_number vs u i in
     let z : 0 ≡ suc r.0 = h 0 (suc r.0) (omega arith) (omega (arith, r.1)) (ap (λ (w : Vertex). same_spot v.at w.at) r.2 ∙ e) in
     omega arith))))
@@ -63,7 +64,7 @@ all_apart← (v ∷ vs) h =
 pub same_tri→ : (t u : Tri) → same_tri t u ≡ true → t ≡ u
 same_tri→ t u e =
     let r = and3→ (eqb t.one u.one) (eqb t.two u.two) (eqb t.three u.three) e in
-    λ i. record { one = eqb→ t.one u.one r.0 i; two = eqb→ t.two u.two r.1 i; three = eqb→ t.three u.three r.2 i }
+    λ i. record { one = eqb-true t.one u.one r.0 i; two = eqb-true t.two u.two r.1 i; three = eqb-true t.three u.three r.2 i }
 
 pub same_tri← : (t : Tri) → same_tri t t ≡ true
 same_tri← t = and3← (eqb t.one t.one) (eqb t.two t.two) (eqb t.three t.three) (eqb_same t.one) (eqb_same t.two) (eqb_same t.three)
@@ -141,10 +142,10 @@ pub record Edge (t : Tri) (a b : ℕ) : Type 0 where
   pub to : corner (next turn_at) t ≡ b
 
 two_are : (m n a b : ℕ) → (eqb m a && eqb n b) ≡ true → (m ≡ a) × (n ≡ b)
-two_are m n a b e = (eqb→ m a (and_left (eqb m a) (eqb n b) e), eqb→ n b (and_right (eqb m a) (eqb n b) e))
+two_are m n a b e = (eqb-true m a (and_left (eqb m a) (eqb n b) e), eqb-true n b (and_right (eqb m a) (eqb n b) e))
 
 are_two : (m n : ℕ) → (eqb m m && eqb n n) ≡ true
-are_two m n = and← (eqb m m) (eqb n n) (eqb_same m) (eqb_same n)
+are_two m n = and_from (eqb m m) (eqb n n) (eqb_same m) (eqb_same n)
 
 pub goes→ : (t : Tri) (a b : ℕ) → goes t a b ≡ true → Edge t a b
 goes→ t a b e = elim (or→ first? (or second? third?) e) [

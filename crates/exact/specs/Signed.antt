@@ -3,17 +3,17 @@ use Rattle.std.specs.Prelude.{ℕ, ◌+◌, ◌*◌, Bool, true, false, ℤ, pos
 use Rattle.exact.specs.Plane.{pick}
 use Rattle.exact.specs.declared.signed.Sign.{Sign}
 use Rattle.exact.specs.declared.signed.Sign.TheVariants.{Negative, Zero, Positive}
-use Rattle.exact.specs.declared.signed.Signed.{Signed}
+use Rattle.exact.specs.declared.signed.Signed.TheInside.{Inside}
 
 -- the words together: how far from 0
-abbrev pub size : Signed → ℕ
+abbrev pub size : Inside → ℕ
 size a = a.high * 18446744073709551616 + a.low
 
 abbrev pub signed : Bool → ℕ → ℤ
 signed false n = pos n
 signed true n = neg_ℤ (pos n)
 
-abbrev pub integer : Signed → ℤ
+abbrev pub integer : Inside → ℤ
 integer a = signed a.negative (size a)
 
 abbrev pub sign_of : ℤ → Sign

@@ -4,7 +4,7 @@ ghost use Rattle.std.specs.Prelude.{◌≡◌, ◌^◌, ◌<◌, ◌≤◌, ◌�
 // Coordinates are below 2^20, so that a product of two differences fits a word.
 pub const LIMIT: u64 = 1048576;
 
-#[derive(Clone, Copy)]
+#[derive(Clone, Copy, PartialEq, Eq, Debug)]
 pub struct Position {
     pub x: u64,
     pub y: u64,

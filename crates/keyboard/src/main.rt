@@ -1,11 +1,11 @@
 // The triangulation at a keyboard: a command to a line, what is shown and how it ended in answer.
 #![tactic(auto)]
 
-use std::io;
 use std::io::{BufRead, BufReader};
-use triangles::line::{Line, read_line};
+use std::{fmt, io};
+use triangles::line::read_line;
 use triangles::request::Request;
-use triangles::{GO_ON, MEMORY, Told, step};
+use triangles::{GO_ON, MEMORY, ROW, Told, step};
 
 fn main(rt: HostRuntime) -> io::Result<()> {
     let mut memory = vec![in rt.alloc(); 0u64; MEMORY]?;
@@ -16,13 +16,13 @@ fn main(rt: HostRuntime) -> io::Result<()> {
     Ok(())
 }
 
-// Answers one line.
+// Answers one line. Runtime and memory go on to the run as two: a struct of both would have these two functions for its methods.
 fn answer(rt: &HostRuntime, memory: &mut [u64], line: &[u8]) -> io::Result<()> {
     match read_line(line) {
-        Line::Nothing => Ok(()),
-        Line::Said(request) => run(rt, memory, request),
-        Line::NotUnderstood => {
-            rt.write_all(b"not understood: ")?;
+        Ok(None) => Ok(()),
+        Ok(Some(request)) => run(rt, memory, request),
+        Err(why) => {
+            print!(rt; "{why}: ")?;
             rt.write_all(line)?;
             rt.write_all(b"\n")
         }
@@ -31,33 +31,33 @@ fn answer(rt: &HostRuntime, memory: &mut [u64], line: &[u8]) -> io::Result<()> {
 
 // Says a command, and lets the machine go on till it ends.
 fn run(rt: &HostRuntime, memory: &mut [u64], request: Request) -> io::Result<()> {
-    let mut out = [0u64; 4];
+    let mut out = [0u64; ROW];
     let (kind, a, b, c) = request.words();
     let mut told = step(memory, kind, a, b, c, &mut out);
     for _ in 0..u64::MAX {
         match told {
-            Told::Shows(count) => show(rt, &out, count)?,
-            Told::Done => return println!(rt; "done"),
-            Told::No(number) => return println!(rt; "refused {number}"),
+            Ok(Told::Shows(count)) => println!(rt; "{}", Row(&out[..ROW.min(count as usize)]))?,
+            Ok(Told::Done) => return println!(rt; "done"),
+            Err(why) => return println!(rt; "refused {why}"),
         }
         told = step(memory, GO_ON, 0, 0, 0, &mut out);
     }
     Ok(())
 }
 
-// A row of numbers with spaces between, or - for an empty one.
-fn show(rt: &HostRuntime, out: &[u64; 4], count: u64) -> io::Result<()> {
-    if count == 0 {
-        return println!(rt; "-");
-    }
-    for (i, n) in out.iter().enumerate() {
-        if i as u64 >= count {
-            break;
+// Numbers with spaces between, or - for none.
+#[derive(Drop)]
+struct Row<'a>(&'a [u64]);
+
+impl fmt::Display for Row<'_> {
+    fn fmt<W: fmt::Write>(&self, f: &mut fmt::Formatter<W>) -> fmt::Result {
+        let Some((first, rest)) = self.0.split_first() else {
+            return f.write_str("-");
+        };
+        write!(f, "{first}")?;
+        for n in rest {
+            write!(f, " {n}")?;
         }
-        if i > 0 {
-            print!(rt; " ")?;
-        }
-        print!(rt; "{n}")?;
+        Ok(())
     }
-    println!(rt; "")
 }

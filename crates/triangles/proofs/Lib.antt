@@ -1,5 +1,4 @@
 pub mod Words
-pub mod PointWords
 pub mod Digits
 pub mod Rows
 pub mod Apart

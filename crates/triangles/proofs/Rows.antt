@@ -1,7 +1,8 @@
 -- Lists of vertices with one more at the end, with one in another's place, and without the last.
 use Rattle.std.proofs.Common.{◌≡◌, ℕ, zero, suc, ◌<◌, Bool, true, false, List, [], ◌∷◌, ◌++◌, length, refl, ap, arith}
 use Rattle.exact.specs.Plane.{every, any, Vertex, vertex_at}
-use Rattle.exact.proofs.Booleans.{and_left, and_right, and←, or_false→, or_false←}
+use Rattle.std.proofs.lemmas.Bool.{and_from}
+use Rattle.exact.proofs.Booleans.{and_left, and_right, or_false→, or_false←}
 use Rattle.triangles.specs.House.{set_nth, all_but_last}
 
 -- ---- a list by its last vertex
@@ -38,21 +39,21 @@ module _ (f : Vertex → Bool) where
 
   pub every_snoc← : (vs : List Vertex) (x : Vertex) → every f vs ≡ true → f x ≡ true → every f (vs ++ x ∷ []) ≡ true
   unfolding every
-  every_snoc← [] x h k = and← (f x) true k refl
-  every_snoc← (v ∷ vs) x h k = and← (f v) (every f (vs ++ x ∷ [])) (and_left (f v) (every f vs) h) (every_snoc← vs x (and_right (f v) (every f vs) h) k)
+  every_snoc← [] x h k = and_from (f x) true k refl
+  every_snoc← (v ∷ vs) x h k = and_from (f v) (every f (vs ++ x ∷ [])) (and_left (f v) (every f vs) h) (every_snoc← vs x (and_right (f v) (every f vs) h) k)
 
   pub every_snoc→ : (vs : List Vertex) (x : Vertex) → every f (vs ++ x ∷ []) ≡ true → (every f vs ≡ true) × (f x ≡ true)
   unfolding every
   every_snoc→ [] x h = (refl, and_left (f x) true h)
   every_snoc→ (v ∷ vs) x h =
       let q = every_snoc→ vs x (and_right (f v) (every f (vs ++ x ∷ [])) h) in
-      (and← (f v) (every f vs) (and_left (f v) (every f (vs ++ x ∷ [])) h) q.0, q.1)
+      (and_from (f v) (every f vs) (and_left (f v) (every f (vs ++ x ∷ [])) h) q.0, q.1)
 
   pub every_set : (vs : List Vertex) (i : ℕ) (x : Vertex) → every f vs ≡ true → f x ≡ true → every f (set_nth vs i x) ≡ true
   unfolding every set_nth
   every_set [] i x h k = refl
-  every_set (v ∷ vs) zero x h k = and← (f x) (every f vs) k (and_right (f v) (every f vs) h)
-  every_set (v ∷ vs) (suc i) x h k = and← (f v) (every f (set_nth vs i x)) (and_left (f v) (every f vs) h) (every_set vs i x (and_right (f v) (every f vs) h) k)
+  every_set (v ∷ vs) zero x h k = and_from (f x) (every f vs) k (and_right (f v) (every f vs) h)
+  every_set (v ∷ vs) (suc i) x h k = and_from (f v) (every f (set_nth vs i x)) (and_left (f v) (every f vs) h) (every_set vs i x (and_right (f v) (every f vs) h) k)
 
 pub record Ends (vs : List Vertex) : Type 0 where
   pub front : List Vertex
@@ -62,10 +63,6 @@ pub record Ends (vs : List Vertex) : Type 0 where
 pub ends : (v : Vertex) (vs : List Vertex) → Ends (v ∷ vs)
 ends v [] = record { front = []; last = v; is = refl }
 ends v (u ∷ vs) = let e = ends u vs in record { front = v ∷ e.front; last = e.last; is = ap (λ (l : List Vertex). v ∷ l) e.is }
-
-pub length_snoc : (vs : List Vertex) (u : Vertex) → length (vs ++ u ∷ []) ≡ suc (length vs)
-length_snoc [] u = refl
-length_snoc (v ∷ vs) u = ap suc (length_snoc vs u)
 
 pub last_at : (vs : List Vertex) (u : Vertex) → vertex_at (vs ++ u ∷ []) (length vs) ≡ u
 unfolding vertex_at

@@ -1,8 +1,7 @@
 -- For vertices at whole places, no two at one, there is a Delaunay triangulation: the one in memory after all have been inserted, if there is room enough.
-use Rattle.std.proofs.Common.{◌≡◌, ℕ, zero, suc, ◌+◌, ◌<◌, ◌≤◌, true, eqb, List, [], ◌∷◌, length, sym, refl, ap, ◌∙◌, subst, arith}
-use native.Mathlib.Decide.{dec_lt}
+use Rattle.std.proofs.Common.{◌≡◌, ℕ, zero, suc, ◌+◌, ◌<◌, ◌≤◌, true, eqb, List, [], ◌∷◌, length, sym, refl, ap, ◌∙◌, subst, arith, inl, inr}
 use Rattle.exact.specs.Plane.{every, each, up_to, Point, point, Vertex, vertex, vertex_at, spot, same_spot, all_apart, Delaunay}
-use Rattle.exact.proofs.Booleans.{and←, eqb←}
+use Rattle.std.proofs.lemmas.Bool.{and_from, eq-eqb, cases_lt}
 use Rattle.exact.proofs.Enumerations.{each_first, each_same}
 use Rattle.exact.proofs.Vertices.{spot_whole, same_number}
 use Rattle.dcel.specs.Layout.{Size, total}
@@ -55,7 +54,7 @@ module _ (vs : List Vertex) (apart : all_apart vs ≡ true) (whole : every (λ v
   none_there n h f j l q =
       let k : j < n = omega (arith, f.count) in
       let there : point (spot vs n).x (spot vs n).y ≡ spot vs j = sym q ∙ ap (λ (v : Vertex). v.at) (f.those j k) in
-      let same : same_spot (spot vs j) (spot vs n) ≡ true = and← (eqb (spot vs j).x (spot vs n).x) (eqb (spot vs j).y (spot vs n).y) (eqb← _ _ (sym (ap (λ (p : Point). p.x) there))) (eqb← _ _ (sym (ap (λ (p : Point). p.y) there))) in
+      let same : same_spot (spot vs j) (spot vs n) ≡ true = and_from (eqb (spot vs j).x (spot vs n).x) (eqb (spot vs j).y (spot vs n).y) (eq-eqb _ _ (sym (ap (λ (p : Point). p.x) there))) (eq-eqb _ _ (sym (ap (λ (p : Point). p.y) there))) in
       omega (arith, same_number vs apart j n (omega arith) h same)
 
   -- and is put in after them
@@ -83,9 +82,9 @@ module _ (vs : List Vertex) (apart : all_apart vs ≡ true) (whole : every (λ v
       memory = grown;
       standing = added.standing;
       count = omega (arith, added.vertices_are, f.count);
-      those = λ j l. ap (λ (t : Sites). vertex_of t j) added.sites_are ∙ elim (dec_lt j n) [
-        | yes k ↦ grown_elsewhere s m v.at.x v.at.y v.data_of added j (omega (arith, f.count)) ∙ f.those j k
-        | no k ↦ subst Is (let q : vertices_in s m ≡ j = omega (arith, f.count) in q) last_is
+      those = λ j l. ap (λ (t : Sites). vertex_of t j) added.sites_are ∙ elim (cases_lt j n) [
+        | inl k ↦ grown_elsewhere s m v.at.x v.at.y v.data_of added j (omega (arith, f.count)) ∙ f.those j k
+        | inr k ↦ subst Is (let q : vertices_in s m ≡ j = omega (arith, f.count) in q) last_is
       ];
     }
 

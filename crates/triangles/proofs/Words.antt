@@ -1,178 +1,172 @@
--- The words of a text, one after the other, and what they say.
-use Rattle.std.proofs.Common.{◌≡◌, ℕ, suc, ◌+◌, ◌<◌, ◌≤◌, Bool, true, false, eqb, ◌⊎◌, List, [], ◌∷◌, length, get_or, take, drop, Some, None, Option, sym, refl, ap, ◌∙◌, inl, inr, add-one, arith, drop-cons}
-use mathlib.Core.Bool.{beq}
-use Rattle.std.proofs.lemmas.List.{drop_all}
+-- The first words of a text, as the library's `split` and `filter` find them, and what they say.
+use Rattle.std.proofs.Common.{◌≡◌, ℕ, zero, suc, ◌<◌, Bool, true, false, eqb, cond, not, List, [], ◌∷◌, length, get_or, take, drop, map, Some, None, Ok, Option, Bor, nat_eq, sym, refl, ap, ◌∙◌, arith}
+use denote.Param.Members.{Mut}
 use Rattle.std.proofs.lemmas.Bool.{ne_eqb}
-use Rattle.triangles.specs.declared.request.Request.{Request}
-use Rattle.triangles.specs.declared.line.Line.{Line}
-use Rattle.triangles.specs.declared.line.Line.TheVariants.{Nothing, Said, NotUnderstood}
+use Rattle.std.proofs.lemmas.Iterator.{YieldsList}
+use Rattle.std.proofs.lemmas.Iterator.Consumers.{YieldsList-from_filter, YieldsList-at}
+use Rattle.std.proofs.lemmas.Iterator.Splits.{YieldsList-from_slice_split}
+use Rattle.std.specs.Fn.{CalledAt}
+use Rattle.std.specs.List.{filter, slice_split, slice_get, onto_first}
+use Rattle.std.specs.Option.{option_map}
+use Rattle.std.specs.declared.iter.Filter.{Filter}
+use Rattle.std.specs.declared.slice.Split.{Split}
+use Rattle.std.specs.Iterator.{YieldsThen}
+use Rattle.std.specs.Iterator.Adapters.{filter_steps, filter_source, filter_callee}
+use Rattle.std.specs.Slice.Iter.{split_steps, split_rest, split_done, split_callee}
+use Rattle.std.specs.Cmp.Lexicographic.{pointwise}
+use Rattle.std.proofs.lemmas.Bool.Decides.{nat_tests}
 use Rattle.exact.specs.Plane.{pick, those, none_of}
-use Rattle.triangles.specs.Word.{fits, front, trimmed, first, rest_after, up_to_empty, up_to_four}
-use Rattle.triangles.specs.Line.{pieces, begin, full, words, alone, with_one, with_two, with_three, understood, unless_remark, said_by, request_of, line_says}
+use Rattle.triangles.specs.Word.{leading, given}
+use Rattle.triangles.specs.Line.{pieces, begin, full, words, remark, unless_remark, request_of, understood, said_by}
+use Rattle.triangles.specs.PointLine.{point_of, point_by}
 
--- ---- the length of a front, counted by a loop
-front_at : (s : Bool) (xs : List ℕ) (i : ℕ) → i < length xs → front s (drop i xs) ≡ pick (fits s (get_or xs i 0)) (suc (front s (drop (suc i) xs))) 0
-unfolding front
-front_at s xs i h = rw (drop-cons xs i 0) refl
+-- the pieces and the words as the library makes them
+abbrev space : ℕ → Bool
+space b = eqb b 32
 
-pub front_more : (s : Bool) (xs : List ℕ) (i : ℕ) → i < length xs → fits s (get_or xs i 0) ≡ true → front s xs ≡ i + front s (drop i xs) → front s xs ≡ i + 1 + front s (drop (i + 1) xs)
-front_more s xs i h f e = rw add-one (let p : front s (drop i xs) ≡ suc (front s (drop (suc i) xs)) = front_at s xs i h ∙ ap (λ (b : Bool). pick b (suc (front s (drop (suc i) xs))) 0) f in omega arith)
+abbrev not_empty : List ℕ → Bool
+not_empty w = not (eqb (length w) 0)
 
-pub front_stop : (s : Bool) (xs : List ℕ) (i : ℕ) → i < length xs → fits s (get_or xs i 0) ≡ false → front s xs ≡ i + front s (drop i xs) → i ≡ front s xs
-front_stop s xs i h f e = let p : front s (drop i xs) ≡ 0 = front_at s xs i h ∙ ap (λ (b : Bool). pick b (suc (front s (drop (suc i) xs))) 0) f in omega arith
+onto_begin : (b : ℕ) (ps : List (List ℕ)) → onto_first b ps ≡ begin b ps
+onto_begin b [] = refl
+onto_begin b (p ∷ ps) = refl
 
-pub front_all : (s : Bool) (xs : List ℕ) (i : ℕ) → i ≤ length xs → length xs ≤ i → front s xs ≡ i + front s (drop i xs) → length xs ≡ front s xs
-unfolding front
-front_all s xs i g h e = let p : front s (drop i xs) ≡ 0 = rw (drop_all i xs h) refl in omega arith
-
-pub front_short : (s : Bool) (xs : List ℕ) → front s xs ≤ length xs
-unfolding front
-front_short s [] = omega arith
-front_short s (x ∷ xs) = at (fits s x) (front_short s xs)
+pieces_split : (bs : List ℕ) → slice_split space bs ≡ pieces bs
+unfolding pieces
+pieces_split [] = refl
+pieces_split (b ∷ bs) = at (eqb b 32) (pieces_split bs)
   where
-    at : (b : Bool) → front s xs ≤ length xs → pick b (suc (front s xs)) 0 ≤ suc (length xs)
-    at true h = omega arith
-    at false h = omega arith
+    at : (s : Bool) → slice_split space bs ≡ pieces bs → cond s ([] ∷ slice_split space bs) (onto_first b (slice_split space bs)) ≡ pick s ([] ∷ pieces bs) (begin b (pieces bs))
+    at true e = rw e refl
+    at false e = onto_begin b _ ∙ ap (begin b) e
 
--- ---- the words of a text, one after the other
-trim_words : (xs : List ℕ) → words xs ≡ words (trimmed xs)
-unfolding front pieces those none_of
-trim_words [] = refl
-trim_words (x ∷ xs) = at (eqb x 32) refl (trim_words xs)
-  where
-    at : (s : Bool) → eqb x 32 ≡ s → words xs ≡ words (trimmed xs) →
-        those full (pick s ([] ∷ pieces xs) (begin x (pieces xs))) ≡ words (drop (pick (beq s true) (suc (front true xs)) 0) (x ∷ xs))
-    at true p e = e
-    at false p e = rw p refl
+full_filter : (ws : List (List ℕ)) → filter not_empty ws ≡ those full ws
+unfolding those none_of
+full_filter [] = refl
+full_filter ([] ∷ ws) = full_filter ws
+full_filter ((b ∷ w) ∷ ws) = rw (ne_eqb (suc (length w)) 0 (λ e. omega arith), full_filter ws) refl
 
--- what begins with no space and has no word is empty
-trim_empty : (xs : List ℕ) → front false (trimmed xs) ≡ 0 → trimmed xs ≡ []
-unfolding front
-trim_empty [] h = refl
-trim_empty (x ∷ xs) h = at (eqb x 32) refl h (trim_empty xs)
-  where
-    at : (s : Bool) → eqb x 32 ≡ s → front false (drop (pick (beq s true) (suc (front true xs)) 0) (x ∷ xs)) ≡ 0 → (front false (trimmed xs) ≡ 0 → trimmed xs ≡ []) →
-        drop (pick (beq s true) (suc (front true xs)) 0) (x ∷ xs) ≡ []
-    at true p h e = e h
-    at false p h e = let q : suc (front false xs) ≡ 0 = rw p at h in absurd (omega arith)
+words_split : (bs : List ℕ) → filter not_empty (slice_split space bs) ≡ words bs
+words_split bs = rw (pieces_split bs) (full_filter (pieces bs))
 
--- the pieces up to the first space, and the rest
-pub record Cut (xs : List ℕ) : Type 0 where
-  pub more : List (List ℕ)
-  pub is : pieces xs ≡ take (front false xs) xs ∷ more
-  pub rest : words (drop (front false xs) xs) ≡ those full more
+-- ---- the words taken one after another
+module _ {A E F : Type 0} (k : Mut E (Bor A × Unit {0}) Bool) (g : Mut F (Bor (Bor (List A)) × Unit {0}) Bool) where
+  abbrev next : Filter (Split A E) F → Option (Bor (List A)) → Filter (Split A E) F → Type 0
+  next = filter_steps (split_steps k) g
 
-cut : (xs : List ℕ) → Cut xs
-unfolding front pieces those none_of
-cut [] = record { more = []; is = refl; rest = refl }
-cut (x ∷ xs) = at (eqb x 32) refl (cut xs)
-  where
-    at : (s : Bool) → eqb x 32 ≡ s → Cut xs → Cut (x ∷ xs)
-    at true p c = record { more = pieces xs; is = simp p refl; rest = simp p refl }
-    at false p c = record { more = c.more; is = rw (p, c.is) refl; rest = rw p c.rest }
+  -- after the end there is no more
+  ended : (s t : Filter (Split A E) F) → next s None t → split_done (filter_source t) ≡ true
+  ended s t e = let last = e.2.2 in ap split_done last.1 ∙ last.0
 
-cut_words : (xs : List ℕ) → (front false xs ≡ 0 → xs ≡ []) → words xs ≡ pick (none_of (take (front false xs) xs)) [] (take (front false xs) xs ∷ words (drop (front false xs) xs))
-unfolding those none_of front pieces
-cut_words [] empty = refl
-cut_words (x ∷ xs) empty = at (eqb x 32) refl (cut (x ∷ xs))
-  where
-    at : (s : Bool) → eqb x 32 ≡ s → Cut (x ∷ xs) → words (x ∷ xs) ≡ pick (none_of (take (front false (x ∷ xs)) (x ∷ xs))) [] (take (front false (x ∷ xs)) (x ∷ xs) ∷ words (drop (front false (x ∷ xs)) (x ∷ xs)))
-    at true p c = let z : length (x ∷ xs) ≡ 0 = ap length (empty (simp p refl)) in absurd (omega arith)
-    at false p c = rw (c.is, c.rest) (simp p refl)
+  stays : (t u : Filter (Split A E) F) (w : Bor (List A)) → split_done (filter_source t) ≡ true → ¬ (next t (Some w) u)
+  stays t u w d e = at e.0 e.2
+    where
+      at : (xs : List (Bor (List A))) → YieldsThen (split_steps k) (filter_source t) xs (Some w) (filter_source u) → ⊥
+      at [] y = let h : true ≡ false = sym d ∙ ap split_done y.1 ∙ y.2.0 in cc
+      at (x ∷ xs) y = let h : true ≡ false = sym d ∙ y.1.1.0 in cc
 
--- the first word, and the words of the rest
-pub words_are : (line : List ℕ) → words line ≡ up_to_empty (first line) (words (rest_after line))
-unfolding first rest_after
-words_are line = trim_words line ∙ cut_words (trimmed line) (trim_empty line)
+  abbrev Left : Filter (Split A E) F → List (List A) → Type 0
+  Left = YieldsList next (λ w. w.now)
 
-words_after : (l m : List ℕ) → m ≡ rest_after l → words l ≡ up_to_empty (first l) (words m)
-words_after l m e = words_are l ∙ ap (λ (x : List ℕ). up_to_empty (first l) (words x)) (sym e)
+  front : (s t : Filter (Split A E) F) (r : Option (Bor (List A))) (ws : List (List A)) → Left s ws → next s r t → option_map (λ w. w.now) r ≡ slice_get ws 0
+  front s t None [] l e = refl
+  front s t None (w ∷ ws) l e = absurd (l.runs.0 t e)
+  front s t (Some x) [] l e = absurd (l.runs x t e)
+  front s t (Some x) (w ∷ ws) l e = ap Some (l.runs.1 x t e).0
 
--- what follows a fifth word makes no difference
-more_or_none : (v a b c d : List ℕ) (more : List (List ℕ)) → said_by (up_to_empty v (up_to_four a b c d more)) ≡ said_by (up_to_empty v (up_to_four a b c d []))
-unfolding up_to_four none_of request_of
-more_or_none [] a b c d more = refl
-more_or_none (v ∷ vs) [] b c d more = refl
-more_or_none (v ∷ vs) (a ∷ as₁) [] c d more = refl
-more_or_none (v ∷ vs) (a ∷ as₁) (b ∷ bs) [] d more = refl
-more_or_none (v ∷ vs) (a ∷ as₁) (b ∷ bs) (c ∷ cs) [] more = refl
-more_or_none (v ∷ vs) (a ∷ as₁) (b ∷ bs) (c ∷ cs) (d ∷ ds) more = refl
+  pub taken : (s t : Filter (Split A E) F) (r : Option (Bor (List A))) (more : List (Option (List A))) (n : ℕ) (ws : List (List A)) →
+      Left s ws → next s r t → (Left t (drop 1 ws) → more ≡ leading n (drop 1 ws)) → option_map (λ w. w.now) r ∷ more ≡ leading (suc n) ws
+  taken s t None more n [] l e rest = ap (λ x. None ∷ x) (rest (record { runs = λ x j. stays t j x (ended s t e) }))
+  taken s t None more n (w ∷ ws) l e rest = absurd (l.runs.0 t e)
+  taken s t (Some x) more n [] l e rest = absurd (l.runs x t e)
+  taken s t (Some x) more n (w ∷ ws) l e rest = let next = l.runs.1 x t e in rw (next.0, rest (record { runs = next.1 })) refl
 
--- the first four words, each the first of what is left of the text
-pub four_words : (l₀ l₁ l₂ l₃ : List ℕ) → l₁ ≡ rest_after l₀ → l₂ ≡ rest_after l₁ → l₃ ≡ rest_after l₂ →
-    words l₀ ≡ up_to_four (first l₀) (first l₁) (first l₂) (first l₃) (words (rest_after l₃))
-unfolding up_to_four
-four_words l₀ l₁ l₂ l₃ e₁ e₂ e₃ = rw (words_after l₀ l₁ e₁, words_after l₁ l₂ e₂, words_after l₂ l₃ e₃, words_are l₃) refl
+pub words_left : {E F : Type 0} (k : Mut E (Bor ℕ × Unit {0}) Bool) (g : Mut F (Bor (Bor (List ℕ)) × Unit {0}) Bool) {s : Filter (Split ℕ E) F} {t : Split ℕ E} (line : List ℕ) {q : E} {p : F} →
+    split_rest t ≡ line → split_done t ≡ false → split_callee t ≡ q → filter_source s ≡ t → filter_callee s ≡ p →
+    ((x : ℕ) (b : Bool) (r : E) → CalledAt k q x b r → (r ≡ q) × (b ≡ space x)) → ((x : Bor (List ℕ)) (b : Bool) (r : F) → CalledAt g p x b r → (r ≡ p) × (b ≡ not_empty x.now)) → Left k g s (words line)
+words_left k g line rest done called source filtered spaces fulls =
+    rw (← words_split line) (YieldsList-from_filter g not_empty (YieldsList-at source (YieldsList-from_slice_split k space line rest done called spaces)) filtered fulls)
 
--- a line is read by its first five words
-pub five_say : (l₀ l₁ l₂ l₃ l₄ : List ℕ) → l₁ ≡ rest_after l₀ → l₂ ≡ rest_after l₁ → l₃ ≡ rest_after l₂ → l₄ ≡ rest_after l₃ →
-    said_by (up_to_empty (first l₀) (up_to_four (first l₁) (first l₂) (first l₃) (first l₄) [])) ≡ line_says l₀
-five_say l₀ l₁ l₂ l₃ l₄ e₁ e₂ e₃ e₄ = sym (ap said_by all ∙ more_or_none (first l₀) (first l₁) (first l₂) (first l₃) (first l₄) (words (rest_after l₄)))
-  where
-    all : words l₀ ≡ up_to_empty (first l₀) (up_to_four (first l₁) (first l₂) (first l₃) (first l₄) (words (rest_after l₄)))
-    all = words_after l₀ l₁ e₁ ∙ ap (up_to_empty (first l₀)) (four_words l₁ l₂ l₃ l₄ e₂ e₃ e₄)
+-- ---- what they say
+-- a word among the first n, told by its place
+first_at : {A : Type 0} (os : List (Option (Bor A))) (n : ℕ) (xs : List A) → map (option_map (λ w. w.now)) os ≡ leading n xs → (k : ℕ) → k < n → option_map (λ w. w.now) (get_or os k None) ≡ slice_get xs k
+first_at os zero xs e k h = absurd (omega arith)
+first_at [] (suc n) [] e k h = cc
+first_at [] (suc n) (x ∷ xs) e k h = cc
+first_at (o ∷ os) (suc n) [] e zero h = cc
+first_at (o ∷ os) (suc n) (x ∷ xs) e zero h = cc
+first_at (o ∷ os) (suc n) [] e (suc k) h = first_at os n [] (cc) k (omega arith)
+first_at (o ∷ os) (suc n) (x ∷ xs) e (suc k) h = first_at os n xs (cc) k (omega arith)
 
--- ---- what words say, told apart by which are empty
-none_is : (w : List ℕ) → none_of w ≡ eqb (length w) 0
-unfolding none_of
-none_is [] = refl
-none_is (x ∷ w) = sym (ne_eqb (suc (length w)) 0 (λ e. omega arith))
+-- the verb, and the four words after it; those that follow make no difference
+asked : (v : List ℕ) (ws : List (List ℕ)) → slice_get ws 0 ≡ Some v → request_of (v ∷ given (slice_get ws 1 ∷ slice_get ws 2 ∷ slice_get ws 3 ∷ slice_get ws 4 ∷ [])) ≡ request_of ws
+unfolding request_of
+asked v [] h = cc
+asked v (w ∷ []) h = cc
+asked v (w ∷ a ∷ []) h = cc
+asked v (w ∷ a ∷ b ∷ []) h = cc
+asked v (w ∷ a ∷ b ∷ c ∷ []) h = cc
+asked v (w ∷ a ∷ b ∷ c ∷ d ∷ ws) h = refl
 
-up_to_empty_stops : (w : List ℕ) (ws : List (List ℕ)) → eqb (length w) 0 ≡ true → up_to_empty w ws ≡ []
-up_to_empty_stops w ws h = rw (none_is w, h) refl
+pointed : (x : List ℕ) (ws : List (List ℕ)) → slice_get ws 0 ≡ Some x → point_of (x ∷ given (slice_get ws 1 ∷ slice_get ws 2 ∷ slice_get ws 3 ∷ [])) ≡ point_of ws
+unfolding point_of
+pointed x [] h = cc
+pointed x (w ∷ []) h = refl
+pointed x (w ∷ a ∷ []) h = refl
+pointed x (w ∷ a ∷ b ∷ []) h = cc
+pointed x (w ∷ a ∷ b ∷ c ∷ ws) h = refl
 
-up_to_empty_goes : (w : List ℕ) (ws : List (List ℕ)) → eqb (length w) 0 ≡ false → up_to_empty w ws ≡ w ∷ ws
-up_to_empty_goes w ws h = rw (none_is w, h) refl
+-- the words of a line that is no remark
+abbrev heard : List (List ℕ) → List (List ℕ)
+heard = unless_remark [] (λ ws. ws)
 
-module _ (v a b c d : List ℕ) where
-  abbrev asked : Option Request
-  asked = request_of (v ∷ up_to_four a b c d [])
+remark_is : (w : List ℕ) → pointwise nat_eq (35 ∷ []) (take 1 w) ≡ remark w
+remark_is [] = refl
+remark_is (b ∷ w) = grind (arith, nat_tests)
 
-  pub says_alone : eqb (length a) 0 ≡ true → alone v ≡ asked
-  unfolding up_to_four request_of
-  says_alone h = rw (up_to_empty_stops a _ h) refl
+none_heard : (ws : List (List ℕ)) → slice_get ws 0 ≡ None → [] ≡ heard ws
+none_heard [] h = refl
+none_heard (w ∷ ws) h = cc
 
-  module _ (ha : eqb (length a) 0 ≡ false) where
-    pub says_one : eqb (length b) 0 ≡ true → with_one v a ≡ asked
-    unfolding up_to_four request_of
-    says_one h = rw (up_to_empty_goes a _ ha, up_to_empty_stops b _ h) refl
+some_heard : (w : List ℕ) (ws : List (List ℕ)) → slice_get ws 0 ≡ Some w → heard ws ≡ pick (remark w) [] ws
+some_heard w [] h = cc
+some_heard w (u ∷ ws) h = cc
 
-    module _ (hb : eqb (length b) 0 ≡ false) where
-      pub says_two : eqb (length c) 0 ≡ true → with_two v a b ≡ asked
-      unfolding up_to_four request_of
-      says_two h = rw (up_to_empty_goes a _ ha, up_to_empty_goes b _ hb, up_to_empty_stops c _ h) refl
+-- how the first word is taken: there is none, it begins a remark, or it counts
+module _ {E F : Type 0} (k : Mut E (Bor ℕ × Unit {0}) Bool) (g : Mut F (Bor (Bor (List ℕ)) × Unit {0}) Bool) (s t : Filter (Split ℕ E) F) (ws : List (List ℕ)) (l : Left k g s ws) where
+  pub none_taken : next k g s None t → [] ≡ heard ws
+  none_taken e = none_heard ws (sym (front k g s t None ws l e))
 
-      module _ (hc : eqb (length c) 0 ≡ false) where
-        pub says_three : eqb (length d) 0 ≡ true → with_three v a b c ≡ asked
-        unfolding up_to_four request_of
-        says_three h = rw (up_to_empty_goes a _ ha, up_to_empty_goes b _ hb, up_to_empty_goes c _ hc, up_to_empty_stops d _ h) refl
+  module _ (w : Bor (List ℕ)) (e : next k g s (Some w) t) (r : Bool) (hash : r ≡ pointwise nat_eq (35 ∷ []) (take 1 w.now)) where
+    is : heard ws ≡ pick r [] ws
+    is = some_heard w.now ws (sym (front k g s t (Some w) ws l e)) ∙ ap (λ b. pick b [] ws) (sym (hash ∙ remark_is w.now))
 
-        pub says_too_much : eqb (length d) 0 ≡ false → None ≡ asked
-        unfolding up_to_four request_of
-        says_too_much h = rw (up_to_empty_goes a _ ha, up_to_empty_goes b _ hb, up_to_empty_goes c _ hc, up_to_empty_goes d _ h) refl
+    pub remark_taken : r ≡ true → [] ≡ heard ws
+    remark_taken h = sym (is ∙ ap (λ b. pick b [] ws) h)
 
--- a blank line or a remark, and any other
-pub passed_over : {A : Type 0} (nothing : A) (read : List (List ℕ) → A) (v : List ℕ) (ws : List (List ℕ)) →
-    (length v ≡ 0) ⊎ (get_or v 0 0 ≡ 35) → nothing ≡ unless_remark nothing read (up_to_empty v ws)
-unfolding none_of
-passed_over nothing read [] ws h = refl
-passed_over nothing read (x ∷ v) ws (inl e) = absurd (omega arith)
-passed_over nothing read (x ∷ v) ws (inr e) = rw e refl
+    pub word_taken : r ≡ false → (more : List (Option (List ℕ))) → (Left k g t (drop 1 ws) → more ≡ leading 4 (drop 1 ws)) → Some w.now ∷ more ≡ leading 5 (heard ws)
+    word_taken h more rest = taken k g s t (Some w) more 4 ws l e rest ∙ ap (leading 5) (sym (is ∙ ap (λ b. pick b [] ws) h))
 
-pub heeded : {A : Type 0} (nothing : A) (read : List (List ℕ) → A) (v : List ℕ) (ws : List (List ℕ)) →
-    0 < length v → (get_or v 0 0 ≡ 35 → ⊥) → read (v ∷ ws) ≡ unless_remark nothing read (up_to_empty v ws)
-unfolding none_of
-heeded nothing read [] ws h n = absurd (omega arith)
-heeded nothing read (x ∷ v) ws h n = rw (ne_eqb x 35 n) refl
+module _ {A : Type 0} (nothing : A) (read : List (List ℕ) → A) where
+  heeded : (v : List ℕ) (ws : List (List ℕ)) → slice_get (heard ws) 0 ≡ Some v → read (heard ws) ≡ unless_remark nothing read ws
+  heeded v [] h = cc
+  heeded v (w ∷ ws) h = at (remark w) h
+    where
+      at : (b : Bool) → slice_get (pick b [] (w ∷ ws)) 0 ≡ Some v → read (pick b [] (w ∷ ws)) ≡ pick b nothing (read (w ∷ ws))
+      at true h = cc
+      at false h = refl
 
-abbrev request_line : List (List ℕ) → Line
-request_line ws = understood (request_of ws)
+-- what a line says, told by its first five words
+module _ (os : List (Option (Bor (List ℕ)))) (ws : List (List ℕ)) (e : map (option_map (λ w. w.now)) os ≡ leading 5 (heard ws)) where
+  at : (k : ℕ) → k < 5 → option_map (λ w. w.now) (get_or os k None) ≡ slice_get (heard ws) k
+  at = first_at os 5 (heard ws) e
 
-pub says_nothing : (v : List ℕ) (ws : List (List ℕ)) → (length v ≡ 0) ⊎ (get_or v 0 0 ≡ 35) → Nothing ≡ said_by (up_to_empty v ws)
-says_nothing v ws h = passed_over Nothing request_line v ws h
+  module _ (v : Bor (List ℕ)) (is : get_or os 0 None ≡ Some v) where
+    first : slice_get (heard ws) 0 ≡ Some v.now
+    first = sym (at 0 (omega arith)) ∙ ap (option_map (λ w. w.now)) is
 
-pub says_said : (v : List ℕ) (ws : List (List ℕ)) (q : Request) → 0 < length v → (get_or v 0 0 ≡ 35 → ⊥) → Some q ≡ request_of (v ∷ ws) → Said q ≡ said_by (up_to_empty v ws)
-says_said v ws q h n e = ap understood e ∙ heeded Nothing request_line v ws h n
+    pub request_is : understood (record {}) (request_of (v.now ∷ given (map (option_map (λ w. w.now)) (get_or os 1 None ∷ get_or os 2 None ∷ get_or os 3 None ∷ get_or os 4 None ∷ [])))) ≡ said_by ws
+    request_is = rw (at 1 (omega arith), at 2 (omega arith), at 3 (omega arith), at 4 (omega arith), asked v.now (heard ws) first) (heeded (Ok None) (λ us. understood (record {}) (request_of us)) v.now ws first)
 
-pub says_not : (v : List ℕ) (ws : List (List ℕ)) → 0 < length v → (get_or v 0 0 ≡ 35 → ⊥) → None ≡ request_of (v ∷ ws) → NotUnderstood ≡ said_by (up_to_empty v ws)
-says_not v ws h n e = ap understood e ∙ heeded Nothing request_line v ws h n
+    pub point_is : understood (record {}) (point_of (v.now ∷ given (map (option_map (λ w. w.now)) (get_or os 1 None ∷ get_or os 2 None ∷ get_or os 3 None ∷ [])))) ≡ point_by ws
+    point_is = rw (at 1 (omega arith), at 2 (omega arith), at 3 (omega arith), pointed v.now (heard ws) first) (heeded (Ok None) (λ us. understood (record {}) (point_of us)) v.now ws first)

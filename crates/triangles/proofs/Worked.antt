@@ -1,5 +1,5 @@
 -- The worked examples: each is computed.
-use Rattle.std.proofs.Common.{◌≡◌, Bool, true, false, sym, refl, inl, inr, true≢false, lit<}
+use Rattle.std.proofs.Common.{refl, inl, inr, lit<}
 use Rattle.exact.specs.Plane.{every, any, those, up_to, vertex_at, no_twice, all_apart, on_a_line, none_of, tri}
 use Rattle.triangles.specs.House.{refusal, vertices_after, Located, Nearest, HullRow, chained, first_of, no_number_twice, found_from, beyond, on_an_edge, set_nth, all_but_last}
 use Rattle.triangles.specs.Promise.{on_hull}
@@ -11,7 +11,7 @@ rectangle_fanned = (refl, refl, refl, refl, refl, refl)
 
 pub rectangle_hull : RectangleHull
 unfolding HullRow on_a_line every any up_to vertex_at chained first_of no_number_twice none_of
-rectangle_hull = (λ e. absurd (let z : ◌≡◌ {A = Bool} false true = e in true≢false (sym z)), λ e. (refl, refl, refl, refl))
+rectangle_hull = (λ e. cc, λ e. (refl, refl, refl, refl))
 
 pub rectangle_located : RectangleLocated
 unfolding Located found_from on_a_line every any up_to vertex_at beyond on_an_edge

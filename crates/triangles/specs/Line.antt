@@ -1,11 +1,10 @@
 -- What a line of text says. A line is its bytes: 32 is a space, 35 is #, 48 to 57 are the digits.
-use Rattle.std.specs.Prelude.{ℕ, ◌+◌, ◌-◌, ◌*◌, Bool, false, not, ◌&&◌, List, [], ◌∷◌, Some, None, codes, Option, ◌==◌, nat_le, nat_lt}
+use Rattle.std.specs.Prelude.{ℕ, ◌+◌, ◌-◌, ◌*◌, Bool, false, not, ◌&&◌, List, [], ◌∷◌, Some, None, Ok, Err, codes, Option, Result, ◌==◌, nat_le, nat_lt}
 use Rattle.std.specs.Str.{bytes_eq}
 use Rattle.exact.specs.Plane.{pick, those, none_of}
 use Rattle.triangles.specs.declared.request.Request.{Request}
 use Rattle.triangles.specs.declared.request.Request.TheVariants.{Insert, Remove, Locate, Nearest, AllFaces, Around, Hull, Clear}
-use Rattle.triangles.specs.declared.line.Line.{Line}
-use Rattle.triangles.specs.declared.line.Line.TheVariants.{Nothing, Said, NotUnderstood}
+use Rattle.triangles.specs.declared.line.NotUnderstood.{NotUnderstood}
 
 -- WORDS: the pieces between spaces, but for the empty ones
 abbrev pub begin : ℕ → List (List ℕ) → List (List ℕ)
@@ -57,7 +56,7 @@ with_two verb a b =
 
 unfoldable pub with_three : List ℕ → List ℕ → List ℕ → List ℕ → Option Request
 with_three verb a b c =
-    of_one (λ x. of_one (λ y. of_one (λ d. pick (bytes_eq verb (codes "insert")) (Some (Insert x y d)) None) (number c)) (number b)) (number a)
+    of_one (λ x. of_one (λ y. of_one (λ d. pick (bytes_eq verb (codes "insert")) (Some (Insert (record { x = x; y = y; «data» = d }))) None) (number c)) (number b)) (number a)
 
 unfoldable pub request_of : List (List ℕ) → Option Request
 request_of [] = None
@@ -67,9 +66,10 @@ request_of (verb ∷ a ∷ b ∷ []) = with_two verb a b
 request_of (verb ∷ a ∷ b ∷ c ∷ []) = with_three verb a b c
 request_of (verb ∷ a ∷ b ∷ c ∷ d ∷ more) = None
 
-abbrev pub understood : Option Request → Line
-understood None = NotUnderstood
-understood (Some r) = Said r
+-- what is read, or why nothing is
+abbrev pub understood : {A E : Type 0} → E → Option A → Result (Option A) E
+understood why None = Err why
+understood why (Some a) = Ok (Some a)
 
 -- a remark begins with #
 abbrev pub remark : List ℕ → Bool
@@ -80,9 +80,9 @@ abbrev pub unless_remark : {A : Type 0} → A → (List (List ℕ) → A) → Li
 unless_remark nothing read [] = nothing
 unless_remark nothing read (w ∷ ws) = pick (remark w) nothing (read (w ∷ ws))
 
-abbrev pub said_by : List (List ℕ) → Line
-said_by = unless_remark Nothing (λ ws. understood (request_of ws))
+abbrev pub said_by : List (List ℕ) → Result (Option Request) NotUnderstood
+said_by = unless_remark (Ok None) (λ ws. understood (record {}) (request_of ws))
 
 -- blank lines and remarks say nothing
-abbrev pub line_says : List ℕ → Line
+abbrev pub line_says : List ℕ → Result (Option Request) NotUnderstood
 line_says line = said_by (words line)

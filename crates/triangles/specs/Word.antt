@@ -1,30 +1,14 @@
--- The first word of a text, and what is after it.
-use Rattle.std.specs.Prelude.{ℕ, suc, Bool, true, false, List, [], ◌∷◌, take, drop, ◌==◌}
-use Rattle.std.specs.Bool.{beq}
-use Rattle.exact.specs.Plane.{pick, none_of}
+-- The first words of a text.
+use Rattle.std.specs.Prelude.{ℕ, zero, suc, List, [], ◌∷◌, Some, None, Option}
 
--- is b a space, or is it none?
-abbrev pub fits : Bool → ℕ → Bool
-fits spaces b = beq (b == 32) spaces
+-- the first n, each if there is one
+abbrev pub leading : {A : Type 0} → ℕ → List A → List (Option A)
+leading zero xs = []
+leading (suc n) [] = None ∷ leading n []
+leading (suc n) (x ∷ xs) = Some x ∷ leading n xs
 
--- how many bytes at the front are spaces, or are none
-unfoldable pub front : Bool → List ℕ → ℕ
-front spaces [] = 0
-front spaces (b ∷ bs) = pick (fits spaces b) (suc (front spaces bs)) 0
-
--- without the spaces in front
-abbrev pub trimmed : List ℕ → List ℕ
-trimmed line = drop (front true line) line
-
-unfoldable pub first : List ℕ → List ℕ
-first line = take (front false (trimmed line)) (trimmed line)
-
-unfoldable pub rest_after : List ℕ → List ℕ
-rest_after line = drop (front false (trimmed line)) (trimmed line)
-
--- words up to the first empty one
-abbrev pub up_to_empty : List ℕ → List (List ℕ) → List (List ℕ)
-up_to_empty w ws = pick (none_of w) [] (w ∷ ws)
-
-unfoldable pub up_to_four : (a b c d : List ℕ) (more : List (List ℕ)) → List (List ℕ)
-up_to_four a b c d more = up_to_empty a (up_to_empty b (up_to_empty c (up_to_empty d more)))
+-- those that are there, up to the first that is not
+abbrev pub given : {A : Type 0} → List (Option A) → List A
+given [] = []
+given (None ∷ xs) = []
+given (Some x ∷ xs) = x ∷ given xs

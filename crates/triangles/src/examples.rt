@@ -1,44 +1,37 @@
-// Small triangulations worked out, as theorems about the definitions.
+// Small triangulations worked out, as theorems about the definitions, a function each.
 ghost use Rattle.triangles.specs.Examples.{RectangleFanned, RectangleHull, RectangleLocated, RectangleNearest, RectangleLess, SquareEitherWay, RowJoined};
 
-pub fn rectangle_fanned() -> u8
+#[tactic(auto, using(crate::proofs::Worked::rectangle_fanned))]
+pub fn rectangle_fanned()
     ensures { RectangleFanned }
-{
-    0
-}
+{}
 
-pub fn rectangle_hull() -> u8
+#[tactic(auto, using(crate::proofs::Worked::rectangle_hull))]
+pub fn rectangle_hull()
     ensures { RectangleHull }
-{
-    0
-}
+{}
 
-pub fn rectangle_located() -> u8
+#[tactic(auto, using(crate::proofs::Worked::rectangle_located))]
+pub fn rectangle_located()
     ensures { RectangleLocated }
-{
-    0
-}
+{}
 
-pub fn rectangle_nearest() -> u8
+#[tactic(auto, using(crate::proofs::Worked::rectangle_nearest))]
+pub fn rectangle_nearest()
     ensures { RectangleNearest }
-{
-    0
-}
+{}
 
-pub fn rectangle_less() -> u8
+#[tactic(auto, using(crate::proofs::Worked::rectangle_less))]
+pub fn rectangle_less()
     ensures { RectangleLess }
-{
-    0
-}
+{}
 
-pub fn square_either_way() -> u8
+#[tactic(auto, using(crate::proofs::Worked::square_either_way))]
+pub fn square_either_way()
     ensures { SquareEitherWay }
-{
-    0
-}
+{}
 
-pub fn row_joined() -> u8
+#[tactic(auto, using(crate::proofs::Worked::row_joined))]
+pub fn row_joined()
     ensures { RowJoined }
-{
-    0
-}
+{}

@@ -1,125 +1,111 @@
-// Reading a line of text as a request.
-ghost use Rattle.std.specs.Prelude.{◌≡◌, [], ◌∷◌};
-ghost use Rattle.triangles.specs.Line.{line_says, said_by, request_of, alone as says_alone, with_one as says-with-one, with_two as says-with-two, with_three as says-with-three};
-ghost use Rattle.std.specs.Str.{bytes_eq};
-ghost use Rattle.triangles.specs.Word.{up_to_empty, up_to_four};
+// Reading a line of text as a request. That a line says a point is read in a like way, each with its own error and number of words.
+ghost use Rattle.std.specs.Prelude.{◌≡◌, [], ◌∷◌, map};
+ghost use Rattle.std.specs.Option.{option_map};
+ghost use Rattle.triangles.specs.Line.{line_says, request_of, alone as says_alone, with_one as says-with-one, with_two as says-with-two, with_three as says-with-three};
+ghost use Rattle.triangles.specs.Word.{given};
 
 use crate::request::Request;
-use crate::word::{first_word, number};
+use crate::word::{first_words, number};
+use dcel::Site;
+use std::fmt;
+use std::fmt::{Display, Formatter, Write};
 
-#[derive(Clone, Copy)]
-pub enum Line {
-    // A blank line or a remark.
-    Nothing,
-    Said(Request),
-    NotUnderstood,
+// A line that is neither blank nor a remark and says no request.
+#[derive(Clone, Copy, Debug, PartialEq, Eq)]
+pub struct NotUnderstood;
+
+impl Display for NotUnderstood {
+    ghost use Rattle.std.specs.Prelude.{Some, codes};
+
+    ghost output = { λ _. Some (codes "not understood") };
+
+    fn fmt<W: Write>(&self, f: &mut Formatter<W>) -> fmt::Result {
+        f.write_str("not understood")
+    }
 }
 
-// What a line says, without its end.
-pub fn read_line(line: &[u8]) -> Line
+// What a line says, without its end; None for a blank line or a remark.
+pub fn read_line(line: &[u8]) -> Result<Option<Request>, NotUnderstood>
     ensures { result ≡ line_says line.now }
 {
-    let (verb, rest) = first_word(line);
-    let (one, rest) = first_word(rest);
-    let (two, rest) = first_word(rest);
-    let (three, rest) = first_word(rest);
-    let (four, _) = first_word(rest);
-    said(verb, one, two, three, four)
-}
-
-// What five words say, of which an empty one and those after it are missing.
-fn said(verb: &[u8], one: &[u8], two: &[u8], three: &[u8], four: &[u8]) -> Line
-    ensures { result ≡ said_by (up_to_empty verb.now (up_to_four one.now two.now three.now four.now [])) }
-{
-    if verb.is_empty() || verb[0] == b'#' {
-        return Line::Nothing;
-    }
-    match request(verb, one, two, three, four) {
-        Some(request) => Line::Said(request),
-        None => Line::NotUnderstood,
-    }
+    let [verb, one, two, three, four] = first_words(line);
+    let Some(verb) = verb else {
+        return Ok(None);
+    };
+    let request = request(verb, one, two, three, four).ok_or(NotUnderstood)?;
+    Ok(Some(request))
 }
 
 // The request of a verb and up to three words more; four are too many.
-fn request(verb: &[u8], one: &[u8], two: &[u8], three: &[u8], four: &[u8]) -> Option<Request>
-    ensures { result ≡ request_of (verb.now ∷ up_to_four one.now two.now three.now four.now []) }
+#[tactic(auto, unfolding(crate::specs::Line::request_of))]
+fn request(
+    verb: &[u8],
+    one: Option<&[u8]>,
+    two: Option<&[u8]>,
+    three: Option<&[u8]>,
+    four: Option<&[u8]>,
+) -> Option<Request>
+    ensures { result ≡ request_of (verb.now ∷ given (map (option_map (λ w. w.now)) (one.entry ∷ two.entry ∷ three.entry ∷ four.entry ∷ []))) }
 {
-    if one.is_empty() {
-        return alone(verb);
+    match (one, two, three, four) {
+        (None, ..) => alone(verb),
+        (Some(one), None, ..) => with_one(verb, one),
+        (Some(one), Some(two), None, _) => with_two(verb, one, two),
+        (Some(one), Some(two), Some(three), None) => with_three(verb, one, two, three),
+        _ => None,
     }
-    if two.is_empty() {
-        return with_one(verb, one);
-    }
-    if three.is_empty() {
-        return with_two(verb, one, two);
-    }
-    if four.is_empty() {
-        return with_three(verb, one, two, three);
-    }
-    None
 }
 
+#[tactic(auto, unfolding(crate::specs::Line::alone))]
 fn alone(verb: &[u8]) -> Option<Request>
     ensures { result ≡ says_alone verb.now }
 {
-    if same(verb, b"hull") {
-        Some(Request::Hull)
-    } else if same(verb, b"clear") {
-        Some(Request::Clear)
-    } else {
-        None
+    match verb {
+        b"hull" => Some(Request::Hull),
+        b"clear" => Some(Request::Clear),
+        _ => None,
     }
 }
 
+#[tactic(auto, unfolding(crate::specs::Line::with_one))]
 fn with_one(verb: &[u8], one: &[u8]) -> Option<Request>
     ensures { result ≡ says-with-one verb.now one.now }
 {
-    if same(verb, b"all") {
-        return if same(one, b"faces") {
-            Some(Request::AllFaces)
-        } else {
-            None
-        };
-    }
-    let n = number(one)?;
-    if same(verb, b"remove") {
-        Some(Request::Remove(n))
-    } else if same(verb, b"around") {
-        Some(Request::Around(n))
-    } else {
-        None
+    match verb {
+        b"all" => match one {
+            b"faces" => Some(Request::AllFaces),
+            _ => None,
+        },
+        b"remove" => Some(Request::Remove(number(one)?)),
+        b"around" => Some(Request::Around(number(one)?)),
+        _ => None,
     }
 }
 
+#[tactic(auto, unfolding(crate::specs::Line::with_two))]
 fn with_two(verb: &[u8], one: &[u8], two: &[u8]) -> Option<Request>
     ensures { result ≡ says-with-two verb.now one.now two.now }
 {
     let x = number(one)?;
     let y = number(two)?;
-    if same(verb, b"locate") {
-        Some(Request::Locate(x, y))
-    } else if same(verb, b"nearest") {
-        Some(Request::Nearest(x, y))
-    } else {
-        None
+    match verb {
+        b"locate" => Some(Request::Locate(x, y)),
+        b"nearest" => Some(Request::Nearest(x, y)),
+        _ => None,
     }
 }
 
+#[tactic(auto, unfolding(crate::specs::Line::with_three))]
 fn with_three(verb: &[u8], one: &[u8], two: &[u8], three: &[u8]) -> Option<Request>
     ensures { result ≡ says-with-three verb.now one.now two.now three.now }
 {
-    let x = number(one)?;
-    let y = number(two)?;
-    let data = number(three)?;
-    if same(verb, b"insert") {
-        Some(Request::Insert(x, y, data))
-    } else {
-        None
+    let site = Site {
+        x: number(one)?,
+        y: number(two)?,
+        data: number(three)?,
+    };
+    match verb {
+        b"insert" => Some(Request::Insert(site)),
+        _ => None,
     }
-}
-
-fn same(word: &[u8], text: &[u8]) -> bool
-    ensures { result ≡ bytes_eq word.now text.now }
-{
-    word == text
 }

@@ -1,28 +1,31 @@
 // The machine: what it does when it is told something.
-ghost use Rattle.std.specs.Prelude.{◌≡◌, ◌≤◌, length};
-ghost use Rattle.dcel.specs.Layout.{real, total};
-ghost use Rattle.triangles.specs.Entry.{event_of, ActTold};
+ghost use Rattle.std.specs.Prelude.{◌≡◌, ◌≤◌, Ok, length};
+ghost use Rattle.dcel.specs.Layout.{real};
 ghost use Rattle.dcel.specs.Memory.{map_of};
 ghost use Rattle.dcel.specs.Geometry.{face_tri};
-ghost use Rattle.triangles.specs.Promise.{shows};
+ghost use Rattle.triangles.specs.Entry.{ActTold};
 ghost use Rattle.triangles.specs.Machine.{machine_step, next_face as next-face-step, put_in, going_on, row_of};
-ghost use Rattle.triangles.specs.Outcome.{act_of};
+ghost use Rattle.triangles.specs.Outcome.{act_of, shown};
+ghost use Rattle.triangles.specs.Promise.{shows};
+ghost use Rattle.triangles.specs.Request.{told};
 
 use crate::Told;
-use dcel::{FaceId, edge, faces, header, next, origin, prev, set_header};
+use crate::event::Event;
+use crate::refusal::Refusal;
+use crate::request::Request;
+use dcel::{FaceId, Memory, Site, edge, faces, header, next, origin, prev, set_header};
 use delaunay::insert::insert;
 use exact::position::Position;
 
-// What a step comes to: a row of one number or of three, the end, or a refusal.
-#[derive(Clone, Copy)]
+// What a step comes to, unless it is refused: a row of one number or of three, or the end. Acts are an enum of their own, by a rule of the project.
+#[derive(Clone, Copy, PartialEq, Eq, Debug)]
 pub enum Outcome {
     One(u64),
     Three(u64, u64, u64),
     Done,
-    Refused(u64),
 }
 
-// The words of the header that have what the machine is at, and how many faces it has shown.
+// The words of the header that have what the machine is at, a number since memory is lent words, and how many faces it has shown.
 const MODE: u64 = 5;
 
 const CURSOR: u64 = 6;
@@ -31,46 +34,40 @@ const ENDING: u64 = 0;
 
 const LISTING: u64 = 1;
 
-// Does what it is told by a kind and three numbers.
-pub fn run(memory: &mut [u64], kind: u64, a: u64, b: u64, c: u64) -> Outcome
-    requires { (length memory.old ≡ total real) × (kind ≤ 8) }
-    ensures memory { memory.new ≡ (machine_step real memory.old (event_of kind a b c)).memory }
-    ensures act { act_of result ≡ (machine_step real memory.old (event_of kind a b c)).act }
+// Does what it is told.
+#[tactic(auto, unfolding(crate::specs::Machine::machine_step))]
+pub fn run(memory: &mut Memory, event: Event) -> Result<Outcome, Refusal>
+    ensures memory { memory.new ≡ (machine_step real memory.old (told event)).memory }
+    ensures act { act_of result ≡ (machine_step real memory.old (told event)).act }
 {
-    match kind {
-        0 => put(memory, a, b, c),
-        4 => next_face(memory, 0),
-        7 => {
+    match event {
+        Event::Said(Request::Insert(site)) => put(memory, site),
+        Event::Said(Request::AllFaces) => Ok(next_face(memory, 0)),
+        Event::Said(Request::Clear) => {
             dcel::clear(memory);
             set_header(memory, MODE, ENDING);
-            Outcome::Done
+            Ok(Outcome::Done)
         }
-        8 => go_on(memory),
-        _ => Outcome::Refused(2),
+        Event::Said(_) => Err(Refusal::NotKnown),
+        Event::GoOn => Ok(go_on(memory)),
     }
 }
 
 // Puts a point in and tells its number.
-fn put(memory: &mut [u64], a: u64, b: u64, c: u64) -> Outcome
-    requires { length memory.old ≡ total real }
-    ensures memory { memory.new ≡ (put_in real memory.old a b c).memory }
-    ensures act { act_of result ≡ (put_in real memory.old a b c).act }
+fn put(memory: &mut Memory, site: Site) -> Result<Outcome, Refusal>
+    ensures memory { memory.new ≡ (put_in real memory.old site.x site.y site.«data»).memory }
+    ensures act { act_of result ≡ (put_in real memory.old site.x site.y site.«data»).act }
 {
-    let Some(p) = Position::new(a, b) else {
-        return Outcome::Refused(6);
-    };
-    let Some(v) = insert(memory, p, c) else {
-        return Outcome::Refused(7);
-    };
+    let p = Position::new(site.x, site.y).ok_or(Refusal::TooLarge)?;
+    let v = insert(memory, p, site.data).ok_or(Refusal::NoRoom)?;
     set_header(memory, MODE, ENDING);
-    Outcome::One(v.0)
+    Ok(Outcome::One(v.0))
 }
 
 // Shows the face after the first `i`, or ends.
-fn next_face(memory: &mut [u64], i: u64) -> Outcome
-    requires { length memory.old ≡ total real }
+fn next_face(memory: &mut Memory, i: u64) -> Outcome
     ensures memory { memory.new ≡ (next-face-step real memory.old i).memory }
-    ensures act { act_of result ≡ (next-face-step real memory.old i).act }
+    ensures act { shown result ≡ (next-face-step real memory.old i).act }
 {
     let count = faces(memory);
     if i >= count || i + 1 >= count {
@@ -84,9 +81,9 @@ fn next_face(memory: &mut [u64], i: u64) -> Outcome
 }
 
 // The corners of a face, the smallest first.
-fn triangle(memory: &[u64], f: FaceId) -> Outcome
-    requires { length memory.now ≡ total real }
-    ensures { act_of result ≡ shows (row_of (face_tri (map_of real memory.now) f.0)) }
+#[tactic(auto, unfolding(dcel::specs::Geometry::face_tri, dcel::specs::Geometry::from_least))]
+fn triangle(memory: &Memory, f: FaceId) -> Outcome
+    ensures { shown result ≡ shows (row_of (face_tri (map_of real memory.now) f.0)) }
 {
     let e = edge(memory, f);
     let a = origin(memory, e).0;
@@ -101,10 +98,10 @@ fn triangle(memory: &[u64], f: FaceId) -> Outcome
     }
 }
 
-fn go_on(memory: &mut [u64]) -> Outcome
-    requires { length memory.old ≡ total real }
+#[tactic(auto, unfolding(crate::specs::Machine::going_on))]
+fn go_on(memory: &mut Memory) -> Outcome
     ensures memory { memory.new ≡ (going_on real memory.old).memory }
-    ensures act { act_of result ≡ (going_on real memory.old).act }
+    ensures act { shown result ≡ (going_on real memory.old).act }
 {
     if header(memory, MODE) == LISTING {
         let shown = header(memory, CURSOR);
@@ -115,9 +112,10 @@ fn go_on(memory: &mut [u64]) -> Outcome
 }
 
 // Shows the numbers of an outcome.
+#[tactic(auto, using(crate::proofs::Entries::one_set, crate::proofs::Entries::three_set), unfolding(crate::specs::Entry::ActTold))]
 pub fn tell(outcome: Outcome, out: &mut [u64]) -> Told
     requires { 4 ≤ length out.old }
-    ensures { ActTold (act_of outcome) result out.old out.new }
+    ensures { ActTold (shown outcome) (Ok result) out.old out.new }
 {
     match outcome {
         Outcome::One(a) => {
@@ -131,6 +129,5 @@ pub fn tell(outcome: Outcome, out: &mut [u64]) -> Told
             Told::Shows(3)
         }
         Outcome::Done => Told::Done,
-        Outcome::Refused(k) => Told::No(k),
     }
 }

@@ -1,55 +1,39 @@
-// Reading a line of text as a point.
-ghost use Rattle.std.specs.Prelude.{◌≡◌, []};
-ghost use Rattle.triangles.specs.PointLine.{point_line, point_by, of_numbers};
-ghost use Rattle.triangles.specs.Word.{up_to_four};
+// Reading a line of text as a point, in five lines like those of a request but for the error and the number of words.
+ghost use Rattle.std.specs.Prelude.{◌≡◌, [], ◌∷◌, map};
+ghost use Rattle.std.specs.Option.{option_map};
+ghost use Rattle.triangles.specs.PointLine.{point_line, point_of};
+ghost use Rattle.triangles.specs.Word.{given};
 
-use crate::word::{first_word, number};
+use crate::word::{first_words, number};
+pub use dcel::Site;
 
-#[derive(Clone, Copy)]
-pub enum PointLine {
-    // A blank line or a remark.
-    Nothing,
-    // x, y, data
-    Point(u64, u64, u64),
-    NotAPoint,
-}
+// A line that is neither blank nor a remark and says no point.
+#[derive(Clone, Copy, Debug, PartialEq, Eq)]
+pub struct NotAPoint;
 
-// Which point a line says, without its end.
-pub fn read_point(line: &[u8]) -> PointLine
+// Which point a line says, without its end; None for a blank line or a remark.
+pub fn read_point(line: &[u8]) -> Result<Option<Site>, NotAPoint>
     ensures { result ≡ point_line line.now }
 {
-    let (one, rest) = first_word(line);
-    let (two, rest) = first_word(rest);
-    let (three, rest) = first_word(rest);
-    let (four, _) = first_word(rest);
-    point(one, two, three, four)
+    let [one, two, three, four, _] = first_words(line);
+    let Some(one) = one else {
+        return Ok(None);
+    };
+    let point = point(one, two, three, four).ok_or(NotAPoint)?;
+    Ok(Some(point))
 }
 
-// What four words say, of which an empty one and those after it are missing.
-fn point(one: &[u8], two: &[u8], three: &[u8], four: &[u8]) -> PointLine
-    ensures { result ≡ point_by (up_to_four one.now two.now three.now four.now []) }
+// The point of three words, neither more nor fewer.
+#[tactic(auto, unfolding(crate::specs::PointLine::point_of, crate::specs::PointLine::of_numbers))]
+fn point(one: &[u8], two: Option<&[u8]>, three: Option<&[u8]>, four: Option<&[u8]>) -> Option<Site>
+    ensures { result ≡ point_of (one.now ∷ given (map (option_map (λ w. w.now)) (two.entry ∷ three.entry ∷ four.entry ∷ []))) }
 {
-    if one.is_empty() || one[0] == b'#' {
-        return PointLine::Nothing;
-    }
-    if four.is_empty() {
-        return numbers(one, two, three);
-    }
-    PointLine::NotAPoint
-}
-
-// The point of three numbers; an empty word is none.
-fn numbers(one: &[u8], two: &[u8], three: &[u8]) -> PointLine
-    ensures { result ≡ of_numbers one.now two.now three.now }
-{
-    let Some(x) = number(one) else {
-        return PointLine::NotAPoint;
+    let (Some(two), Some(three), None) = (two, three, four) else {
+        return None;
     };
-    let Some(y) = number(two) else {
-        return PointLine::NotAPoint;
-    };
-    let Some(data) = number(three) else {
-        return PointLine::NotAPoint;
-    };
-    PointLine::Point(x, y, data)
+    Some(Site {
+        x: number(one)?,
+        y: number(two)?,
+        data: number(three)?,
+    })
 }

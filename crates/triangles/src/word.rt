@@ -1,9 +1,11 @@
 // Words and numbers in a line of text.
-ghost use Rattle.std.specs.Prelude.{◌≡◌};
-ghost use Rattle.triangles.specs.Line.{number as number_in};
-ghost use Rattle.triangles.specs.Word.{front, first, rest_after};
+ghost use Rattle.std.specs.Prelude.{◌≡◌, [], map};
+ghost use Rattle.std.specs.Option.{option_map};
+ghost use Rattle.triangles.specs.Line.{words, unless_remark, number as number_in};
+ghost use Rattle.triangles.specs.Word.{leading};
 
-// A number in decimal digits, below 2^64.
+// A number in decimal digits, below 2^64. It is not std's parse, which takes a sign too.
+#[tactic(auto, using(crate::proofs::Digits::number_all, crate::proofs::Digits::number_stop, crate::proofs::Digits::number_more, crate::proofs::Digits::number_large))]
 pub(crate) fn number(word: &[u8]) -> Option<u64>
     ensures { result ≡ number_in word.now }
 {
@@ -12,37 +14,31 @@ pub(crate) fn number(word: &[u8]) -> Option<u64>
     }
     let mut n = 0u64;
     for b in word {
-        if *b < b'0' || *b > b'9' {
+        if !b.is_ascii_digit() {
             return None;
         }
-        let Some(tens) = n.checked_mul(10) else {
-            return None;
-        };
-        let Some(sum) = tens.checked_add(u64::from(*b - b'0')) else {
-            return None;
-        };
-        n = sum;
+        n = n.checked_mul(10)?.checked_add(u64::from(*b - b'0'))?;
     }
     Some(n)
 }
 
-// The first word and what is after it; an empty word where there is none.
-pub(crate) fn first_word(line: &[u8]) -> (&[u8], &[u8])
-    ensures word { result.0.now ≡ first line.now }
-    ensures rest { result.1.now ≡ rest_after line.now }
+// The first five words of a line, each if there is one; a remark has none.
+pub(crate) fn first_words(line: &[u8]) -> [Option<&[u8]>; 5]
+    ensures { map (option_map (λ w. w.now)) result ≡ leading 5 (unless_remark [] (λ ws. ws) (words line.now)) }
 {
-    let (_, start) = line.split_at(front_len(line, true));
-    start.split_at(front_len(start, false))
-}
-
-// How many bytes at the front are spaces, or are none.
-fn front_len(line: &[u8], spaces: bool) -> usize
-    ensures { result ≡ front spaces line.now }
-{
-    for (i, b) in line.iter().enumerate() {
-        if (*b == b' ') != spaces {
-            return i;
-        }
+    let mut words = line.split(|b| *b == b' ').filter(|w| !w.is_empty());
+    let Some(first) = words.next() else {
+        return [None; 5];
+    };
+    if first.starts_with(b"#") {
+        return [None; 5];
     }
-    line.len()
+    // One by one: a loop over the chain takes a third more instructions.
+    [
+        Some(first),
+        words.next(),
+        words.next(),
+        words.next(),
+        words.next(),
+    ]
 }

@@ -1,6 +1,6 @@
 -- At rest no vertex is inside the circle of a face: walking towards it one stays inside the circles, and ends in a face of which it is a corner.
 use Rattle.std.proofs.Common.{◌≡◌, ℕ, ◌<◌, true, false, List, length, pos, neg_ℤ, sym, ap, ◌∙◌, subst, inl, inr, arith}
-use native.Mathlib.Decide.{ℕ_discrete}
+use Rattle.std.proofs.lemmas.Bool.{cases_eq}
 use Rattle.exact.specs.Plane.{every, Point, Vertex, spot, empty_circle}
 use Rattle.exact.proofs.Lists.{every←}
 use Rattle.exact.proofs.Numbered.{numbered→}
@@ -43,9 +43,9 @@ corners_on P a b c v among = elim among [
 module _ {pos : ℕ → Point} {m : Map} (S : Sound m) (G : Geometric pos m) (some : 1 < m.faces) (v : ℕ) (l : v < m.vertices) where
   -- where there is a face, each vertex is a corner of one
   pub inner_from : (e : ℕ) × Inner m e × (m.origin e ≡ v)
-  inner_from = elim (ℕ_discrete (m.face e) 0) [
-    | no z ↦ (e, (h, z), S.out_origin v l)
-    | yes z ↦ (m.next (twin e), (S.next_in (twin e) t, λ y. two_sides S G some e h z (sym (S.face_next (twin e) t) ∙ y)), S.origin_next (twin e) t ∙ ap m.origin (twin_twin e) ∙ S.out_origin v l)
+  inner_from = elim (cases_eq (m.face e) 0) [
+    | inr z ↦ (e, (h, z), S.out_origin v l)
+    | inl z ↦ (m.next (twin e), (S.next_in (twin e) t, λ y. two_sides S G some e h z (sym (S.face_next (twin e) t) ∙ y)), S.origin_next (twin e) t ∙ ap m.origin (twin_twin e) ∙ S.out_origin v l)
   ]
     where
       e : ℕ

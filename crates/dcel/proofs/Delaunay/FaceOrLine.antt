@@ -1,8 +1,8 @@
 -- A mesh has a face just where its vertices are not on one line.
-use Rattle.std.proofs.Common.{◌≡◌, ℕ, ◌<◌, ◌≤◌, true, false, List, length, arith}
-use native.Mathlib.Decide.{dec_lt}
+use Rattle.std.proofs.Common.{◌≡◌, ℕ, ◌<◌, ◌≤◌, true, false, List, length, arith, inl, inr}
 use Rattle.exact.specs.Plane.{Point, Vertex, spot, on_a_line}
-use Rattle.exact.proofs.Booleans.{true_false, is_false}
+use Rattle.std.proofs.lemmas.Bool.{false_from_ne_true, cases_lt}
+use Rattle.exact.proofs.Booleans.{true_false}
 use Rattle.exact.proofs.Algebra.Signs.{clash_zero}
 use Rattle.exact.proofs.Geometry.Words.{On}
 use Rattle.exact.proofs.Geometry.Line.{on_three}
@@ -32,14 +32,14 @@ module _ (vs : List Vertex) {m : Map} (S : Sound m) (G : Geometric (spot vs) m) 
 
   -- the corners of a face are on no line
   pub face_no_line : 1 < m.faces → on_a_line vs ≡ false
-  face_no_line some = is_false (on_a_line vs) (λ line.
+  face_no_line some = false_from_ne_true (on_a_line vs) (λ line.
       let e = m.edge 1 in let h = S.edge_in 1 (omega arith) some in let z = edge_inner S 1 (omega arith) some in
       let two = two_vertices S e h in
       let on : (v : ℕ) → v < m.vertices → On (site G 0) (site G 1) (site G v) = λ v l. on_a_line→ vs G.whole line (omega arith) v (omega arith) in
       clash_zero (face_left G e h z) (on_three (site G 0) (site G 1) (start G e) (stop G e) (third G e) (different_apart G 0 1 (omega arith) two (λ q. omega arith)) (on (m.origin e) (S.origin_in e h)) (on (m.origin (twin e)) (stop_in S e h)) (on (m.origin (m.prev e)) (third_in S e h))))
 
   pub line_no_face : on_a_line vs ≡ true → m.faces ≤ 1
-  line_no_face line = elim (dec_lt 1 m.faces) [ yes some ↦ absurd (true_false (on_a_line vs) line (face_no_line some)) | no n ↦ omega arith ]
+  line_no_face line = elim (cases_lt 1 m.faces) [ inl some ↦ absurd (true_false (on_a_line vs) line (face_no_line some)) | inr n ↦ omega arith ]
 
   pub no_line_face : on_a_line vs ≡ false → 1 < m.faces
-  no_line_face off = elim (dec_lt 1 m.faces) [ yes some ↦ some | no n ↦ absurd (true_false (on_a_line vs) (no_face_line (omega arith)) off) ]
+  no_line_face off = elim (cases_lt 1 m.faces) [ inl some ↦ some | inr n ↦ absurd (true_false (on_a_line vs) (no_face_line (omega arith)) off) ]

@@ -1,8 +1,8 @@
 -- A mesh on a line: its half edges go between neighbours, and between any two.
 use Rattle.std.proofs.Common.{◌≡◌, ℕ, ◌<◌, ◌≤◌, true, ◌&&◌, ltb, ◌≢◌, ◌⊎◌, List, length, sym, ap, ◌∙◌, subst, inl, inr, arith}
-use native.Mathlib.Decide.{ℕ_discrete}
 use Rattle.exact.specs.Plane.{Vertex, spot, Tri, on_segment, neighbours_on_line, joined}
-use Rattle.exact.proofs.Booleans.{is_false, true_false, and_left, and_right, ltb→}
+use Rattle.std.proofs.lemmas.Bool.{false_from_ne_true, ltb-true, cases_eq}
+use Rattle.exact.proofs.Booleans.{true_false, and_left, and_right}
 use Rattle.exact.proofs.Geometry.Words.{Site, Between, Apart, On}
 use Rattle.exact.proofs.Geometry.Betweenness.{between_swap}
 use Rattle.exact.proofs.Geometry.Segments.{on_segment→, on_segment←}
@@ -23,7 +23,7 @@ module _ (vs : List Vertex) {m : Map} (S : Sound m) (G : Geometric (spot vs) m) 
   pub line_edge_joined : (ts : List Tri) (e : ℕ) → e < m.half_edges → joined vs ts (m.origin e) (m.origin (twin e)) ≡ true
   line_edge_joined ts e h =
       let a = m.origin e in let b = m.origin (twin e) in let ha = S.origin_in e h in let hb = stop_in S e h in
-      line_joined← vs a b ts (no_face_line vs S G len none) (omega arith) (omega arith) (neighbours_on_line← vs a b (S.no_loop e h) (λ c l na nb. is_false (on_segment (spot vs a) (spot vs b) (spot vs c)) (λ on.
+      line_joined← vs a b ts (no_face_line vs S G len none) (omega arith) (omega arith) (neighbours_on_line← vs a b (S.no_loop e h) (λ c l na nb. false_from_ne_true (on_segment (spot vs a) (spot vs b) (spot vs c)) (λ on.
       none_between G e h (all_outer S none e h) c (omega arith)
       (on_segment→ (site G a) (site G b) (site G c) on (different_apart G a c ha (omega arith) (λ q. na (sym q))) (different_apart G b c hb (omega arith) (λ q. nb (sym q)))))))
 
@@ -54,9 +54,9 @@ module _ (vs : List Vertex) {m : Map} (S : Sound m) (G : Geometric (spot vs) m) 
 
     -- it goes to b, or away from it
     to_or_away : (e : ℕ) → Leaves e → (m.origin (twin e) ≡ b) ⊎ Between (stop G e) (site G b) (site G a)
-    to_or_away e o = elim (ℕ_discrete (end e) b) [
-      | yes q ↦ inl q
-      | no n ↦
+    to_or_away e o = elim (cases_eq (end e) b) [
+      | inl q ↦ inl q
+      | inr n ↦
           let x = stop_in S e o.in_e in
           elim (between_one A B (stop G e) (three_on_line S G none a b (end e) ha hb x) apart_ab (apart_end e o) (different_apart G b (end e) hb x (λ q. n (sym q)))) [
             | inl k ↦ absurd (true_false (on_segment (spot vs a) (spot vs b) (spot vs (end e))) (on_segment← A B (stop G e) k)
@@ -80,9 +80,9 @@ module _ (vs : List Vertex) {m : Map} (S : Sound m) (G : Geometric (spot vs) m) 
       | inl q ↦ (e, record { in_e = o.in_e; from_is = o.from_a; to_is = q })
       | inr k ↦ elim (to_or_away g p) [
         | inl q ↦ (g, record { in_e = p.in_e; from_is = p.from_a; to_is = q })
-        | inr l ↦ absurd (elim (ℕ_discrete g e) [
-          | yes q ↦ last q k
-          | no n ↦ not_across A B apart_ab (stop G g) (stop G e) B A (line (end g) (stop_in S g p.in_e)) (line (end e) (stop_in S e o.in_e)) (line a ha) l k (two_ways g e p o n)
+        | inr l ↦ absurd (elim (cases_eq g e) [
+          | inl q ↦ last q k
+          | inr n ↦ not_across A B apart_ab (stop G g) (stop G e) B A (line (end g) (stop_in S g p.in_e)) (line (end e) (stop_in S e o.in_e)) (line a ha) l k (two_ways g e p o n)
         ])
       ]
     ]
@@ -116,5 +116,5 @@ module _ (vs : List Vertex) {m : Map} (S : Sound m) (G : Geometric (spot vs) m) 
       let ha? = ltb a (length vs) in let hb? = ltb b (length vs) in let near? = neighbours_on_line vs a b in
       let both = sym (line_joined_is vs a b ts (no_face_line vs S G len none)) ∙ t in
       let below = and_left (ha? && hb?) near? both in
-      let ha = ltb→ a (length vs) (and_left ha? hb? below) in let hb = ltb→ b (length vs) (and_right ha? hb? below) in
+      let ha = ltb-true a (length vs) (and_left ha? hb? below) in let hb = ltb-true b (length vs) (and_right ha? hb? below) in
       neighbours_joined a b (omega arith) (omega arith) (and_right (ha? && hb?) near? both)

@@ -1,6 +1,6 @@
 -- The inner half edges of a mesh make triangles over which one can walk: the twin of a half edge leads across it.
 use Rattle.std.proofs.Common.{◌≡◌, ℕ, suc, ◌-◌, ◌*◌, ◌<◌, Bool, true, false, ◌≢◌, ◌⊎◌, List, length, neg_ℤ, sym, ap, ◌∙◌, subst, ap₂, inl, inr, arith}
-use borrow.Author.Differences.{ints}
+use Rattle.std.proofs.lemmas.Int.{ints}
 use Rattle.exact.specs.Plane.{each, up_to, Point}
 use Rattle.exact.proofs.Lists.{In, in_each, each_length, up_to←, up_to_length}
 use Rattle.exact.proofs.Numbered.{numbered, numbered→, numbered←}

@@ -1,6 +1,6 @@
 -- A walk to the place x over a mesh at rest: from a half edge with x strictly on its left over one of the other two of its face that has x strictly on its right. Each step lowers the number of those that may be left.
 use Rattle.std.proofs.Common.{◌≡◌, ℕ, suc, ◌*◌, ◌<◌, ◌≤◌, true, false, ◌≢◌, ◌⊎◌, neg_ℤ, sym, ◌∙◌, subst, inl, inr, arith}
-use borrow.Author.Differences.{ints}
+use Rattle.std.proofs.lemmas.Int.{ints}
 use Rattle.exact.specs.Plane.{Point, left_of, right_of}
 use Rattle.exact.proofs.Algebra.Signs.{Sign, ◌by◌}
 use Rattle.exact.proofs.Geometry.Words.{W_sign, orient}

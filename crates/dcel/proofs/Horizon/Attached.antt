@@ -1,21 +1,16 @@
 -- What is read from a map after a new vertex p has been attached at e = uw.
 use Rattle.std.proofs.Common.{◌≡◌, ℕ, ◌+◌, ◌<◌, ◌≢◌, ◌⊎◌, sym, ap, ◌∙◌, inl, inr, arith}
-use native.Mathlib.Decide.{ℕ_discrete, dec_lt}
+use Rattle.std.proofs.lemmas.Bool.{cases_eq, cases_lt}
+use Rattle.dcel.specs.Pairs.{reversed}
 use Rattle.dcel.specs.Map.{Map, twin}
 use Rattle.dcel.specs.Mesh.{Among, Sound, Mesh}
 use Rattle.dcel.specs.Patch.{patched}
 use Rattle.dcel.specs.Surgery.{Outer, attach_patch}
+use Rattle.dcel.proofs.Changes.{elsewhere}
 use Rattle.dcel.proofs.Fits.{IsPatched, is_patched}
 use Rattle.dcel.proofs.OuterAttach.{attach_surgery}
 use Rattle.dcel.proofs.Neighbours.{Neighbours, neighbours, new_pairs}
 use Rattle.dcel.proofs.Horizon.Kept.{Kept}
-
--- an old number is none of the places
-off_tails : (E a b x : ℕ) → x < E → x ≢ a → x ≢ b → (x ≡ a) ⊎ ((x ≡ E) ⊎ ((x ≡ E + 2) ⊎ ((x ≡ b) ⊎ ((x ≡ E + 3) ⊎ ((x ≡ E + 1) ⊎ ⊥))))) → ⊥
-off_tails E a b x h p q k = grind arith
-
-off_heads : (E a b x : ℕ) → x < E → x ≢ a → x ≢ b → (x ≡ E) ⊎ ((x ≡ E + 2) ⊎ ((x ≡ a) ⊎ ((x ≡ E + 3) ⊎ ((x ≡ E + 1) ⊎ ((x ≡ b) ⊎ ⊥))))) → ⊥
-off_heads E a b x h p q k = grind arith
 
 pub record Attached (m n : Map) (e : ℕ) : Type 0 where
   pub sound : Sound m
@@ -107,22 +102,22 @@ module _ {m n : Map} {e : ℕ} (K : Attached m n e) where
 
   -- ---- what was there
   pub origin_old : (x : ℕ) → x < m.half_edges → n.origin x ≡ m.origin x
-  origin_old x h = d.origin_off x (λ k. grind arith)
+  origin_old x h = d.origin_off x (elsewhere (attach_patch m e).origins x (omega arith))
 
   pub face_old : (x : ℕ) → x < m.half_edges → x ≢ e → n.face x ≡ m.face x
-  face_old x h a = d.face_off x (λ k. grind arith)
+  face_old x h a = d.face_off x (elsewhere (attach_patch m e).sides x (omega arith))
 
   pub next_old : (x : ℕ) → x < m.half_edges → x ≢ e → x ≢ m.prev e → n.next x ≡ m.next x
-  next_old x h a b = d.next_off x (off_tails m.half_edges e (m.prev e) x h a b)
+  next_old x h a b = d.next_off x (elsewhere (attach_patch m e).links x (omega arith))
 
   prev_old : (x : ℕ) → x < m.half_edges → x ≢ e → x ≢ m.next e → n.prev x ≡ m.prev x
-  prev_old x h a b = d.prev_off x (off_heads m.half_edges e (m.next e) x h a b)
+  prev_old x h a b = d.prev_off x (elsewhere (reversed (attach_patch m e).links) x (omega arith))
 
   pub edge_old : (f : ℕ) → f ≢ m.faces → n.edge f ≡ m.edge f
-  edge_old f h = d.edge_off f (λ k. elim k [ inl q ↦ h q | inr k ↦ k ])
+  edge_old f h = d.edge_off f (elsewhere (attach_patch m e).edges f (omega arith))
 
   pub out_old : (v : ℕ) → v ≢ m.vertices → n.out v ≡ m.out v
-  out_old v h = d.out_off v (λ k. elim k [ inl q ↦ h q | inr k ↦ k ])
+  out_old v h = d.out_off v (elsewhere (attach_patch m e).outs v (omega arith))
 
   pub attach_keeps : (x : ℕ) → x < m.half_edges → m.face x ≢ 0 → Kept m n x
   attach_keeps x h z =
@@ -133,15 +128,15 @@ module _ {m n : Map} {e : ℕ} (K : Attached m n e) where
 
   -- what is inner was so, or is a side of the new face
   pub inner_then : (x : ℕ) → x < n.half_edges → n.face x ≢ 0 → ((x < m.half_edges) × (m.face x ≢ 0)) ⊎ Among x e wp pu
-  inner_then x h z = elim (ℕ_discrete x e) [
-    | yes q ↦ inr (inl q)
-    | no a ↦ elim (dec_lt x m.half_edges) [
-      | yes l ↦ inl (l, λ q. z (face_old x l a ∙ q))
-      | no l ↦ elim (ℕ_discrete x wp) [
-        | yes q ↦ inr (inr (inl q))
-        | no b ↦ elim (ℕ_discrete x pu) [
-          | yes q ↦ inr (inr (inr q))
-          | no c ↦ elim (ℕ_discrete x pw) [ yes q ↦ absurd (z (ap n.face q ∙ face_pw)) | no f ↦ absurd (z (ap n.face (omega (arith, d.half_edges_is)) ∙ face_up)) ]
+  inner_then x h z = elim (cases_eq x e) [
+    | inl q ↦ inr (inl q)
+    | inr a ↦ elim (cases_lt x m.half_edges) [
+      | inl l ↦ inl (l, λ q. z (face_old x l a ∙ q))
+      | inr l ↦ elim (cases_eq x wp) [
+        | inl q ↦ inr (inr (inl q))
+        | inr b ↦ elim (cases_eq x pu) [
+          | inl q ↦ inr (inr (inr q))
+          | inr c ↦ elim (cases_eq x pw) [ inl q ↦ absurd (z (ap n.face q ∙ face_pw)) | inr f ↦ absurd (z (ap n.face (omega (arith, d.half_edges_is)) ∙ face_up)) ]
         ]
       ]
     ]
@@ -149,13 +144,13 @@ module _ {m n : Map} {e : ℕ} (K : Attached m n e) where
 
   -- what is outer ends or begins at p, or was outer and is not e
   pub outer_then : (x : ℕ) → x < n.half_edges → n.face x ≡ 0 → (x ≡ up) ⊎ ((x ≡ pw) ⊎ ((x < m.half_edges) × (x ≢ e) × (m.face x ≡ 0)))
-  outer_then x h z = elim (dec_lt x m.half_edges) [
-    | yes l ↦ (let a : x ≢ e = λ q. side q face_e in inr (inr (l, a, sym (face_old x l a) ∙ z)))
-    | no l ↦ elim (ℕ_discrete x up) [
-      | yes q ↦ inl q
-      | no a ↦ elim (ℕ_discrete x pw) [
-        | yes q ↦ inr (inl q)
-        | no b ↦ elim (ℕ_discrete x wp) [ yes q ↦ absurd (side q face_wp) | no c ↦ absurd (side (omega (arith, d.half_edges_is)) face_pu) ]
+  outer_then x h z = elim (cases_lt x m.half_edges) [
+    | inl l ↦ (let a : x ≢ e = λ q. side q face_e in inr (inr (l, a, sym (face_old x l a) ∙ z)))
+    | inr l ↦ elim (cases_eq x up) [
+      | inl q ↦ inl q
+      | inr a ↦ elim (cases_eq x pw) [
+        | inl q ↦ inr (inl q)
+        | inr b ↦ elim (cases_eq x wp) [ inl q ↦ absurd (side q face_wp) | inr c ↦ absurd (side (omega (arith, d.half_edges_is)) face_pu) ]
       ]
     ]
   ]

@@ -1,6 +1,6 @@
 -- When p sees neither what follows b nor what comes before a, the grown mesh is at its places.
-use Rattle.std.proofs.Common.{◌≡◌, ℕ, ◌<◌, true, ◌⊎◌, neg_ℤ, sym, refl, ap, ◌∙◌, subst, inl, inr, arith}
-use native.Mathlib.Decide.{ℕ_discrete, dec_lt}
+use Rattle.std.proofs.Common.{◌≡◌, ℕ, ◌<◌, true, ◌⊎◌, neg_ℤ, sym, refl, ap, ◌∙◌, subst, inl, inr, arith, subst₂}
+use Rattle.std.proofs.lemmas.Bool.{cases_eq, cases_lt}
 use Rattle.exact.specs.Plane.{Point}
 use Rattle.exact.proofs.Algebra.Signs.{Sign, ◌by◌, split, clash, zero_sign_neg}
 use Rattle.exact.proofs.Geometry.Words.{orient, Site, Orient, Dist², RightOn, Between}
@@ -77,21 +77,18 @@ module _ {pos : ℕ → Point} {m₀ m : Map} {a b : ℕ} (B : Placed pos m₀) 
 
   -- ---- an old vertex, or p
   old_or_p : (Q : ℕ → Type 0) → ((z : ℕ) → z < m₀.vertices → Q z) → Q m₀.vertices → (z : ℕ) → z < m.vertices → Q z
-  old_or_p Q f g z l = elim (ℕ_discrete z m₀.vertices) [ yes q ↦ subst Q (sym q) g | no q ↦ f z (omega (arith, O.grown.vertices_is)) ]
+  old_or_p Q f g z l = elim (cases_eq z m₀.vertices) [ inl q ↦ subst Q (sym q) g | inr q ↦ f z (omega (arith, O.grown.vertices_is)) ]
 
   -- what is said of the ends of every outer half edge
   each_outer : (Q : ℕ → ℕ → Type 0) → Q (m₀.origin first) m₀.vertices → Q m₀.vertices (m₀.origin (twin last)) → ((x : ℕ) → Outer m₀ x → m.face x ≡ 0 → Q (m₀.origin x) (m₀.origin (twin x))) →
       (x : ℕ) → x < m.half_edges → m.face x ≡ 0 → Q (m.origin x) (m.origin (twin x))
   each_outer Q f g k x l z = elim (O.others x l z) [
-    | inl q ↦ at (ap m.origin q ∙ O.from_first) (ap (λ (y : ℕ). m.origin (twin y)) q ∙ end_a B S O) f
+    | inl q ↦ subst₂ Q (sym (ap m.origin q ∙ O.from_first)) (sym (ap (λ (y : ℕ). m.origin (twin y)) q ∙ end_a B S O)) f
     | inr r ↦ elim r [
-      | inl q ↦ at (ap m.origin q ∙ O.at_p) (ap (λ (y : ℕ). m.origin (twin y)) q ∙ O.to_last) g
-      | inr o ↦ at (O.grown.origin_old x o.in_e) (O.grown.origin_old (twin x) (B.mesh.sound.twin_in x o.in_e)) (k x o z)
+      | inl q ↦ subst₂ Q (sym (ap m.origin q ∙ O.at_p)) (sym (ap (λ (y : ℕ). m.origin (twin y)) q ∙ O.to_last)) g
+      | inr o ↦ subst₂ Q (sym (O.grown.origin_old x o.in_e)) (sym (O.grown.origin_old (twin x) (B.mesh.sound.twin_in x o.in_e))) (k x o z)
     ]
   ]
-    where
-      at : {u v u' v' : ℕ} → u ≡ u' → v ≡ v' → Q u' v' → Q u v
-      at {u} {v} {u'} {v'} q r h = subst (λ (x : ℕ). Q x v) (sym q) (subst (Q u') (sym r) h)
 
   right : (x : ℕ) → x < m.half_edges → m.face x ≡ 0 → (z : ℕ) → z < m.vertices → RightOn (site B (m.origin x)) (site B (m.origin (twin x))) (site B z)
   right = each_outer (λ u v. (z : ℕ) → z < m.vertices → RightOn (site B u) (site B v) (site B z))
@@ -107,9 +104,9 @@ module _ {pos : ℕ → Point} {m₀ m : Map} {a b : ℕ} (B : Placed pos m₀) 
 
   -- ---- nothing else that is outer begins where the first one did
   not_first : (x : ℕ) → Outer m₀ x → m.face x ≡ 0 → m₀.origin first ≡ m₀.origin x → ⊥
-  not_first x o z q = elim (dec_lt 1 m₀.faces) [
-    | yes f ↦ O.first_covered.inner (ap m.face (B.geometric.once f first x first_was.in_e o.in_e first_was.outer o.outer q) ∙ z)
-    | no f ↦ turned_away (start B first) (stop B first) (stop B x) P O.first_covered.seen (hidden x o z by ap (λ (c : ℕ). neg_ℤ (Orient (site B c) (stop B x) P)) q)
+  not_first x o z q = elim (cases_lt 1 m₀.faces) [
+    | inl f ↦ O.first_covered.inner (ap m.face (B.geometric.once f first x first_was.in_e o.in_e first_was.outer o.outer q) ∙ z)
+    | inr f ↦ turned_away (start B first) (stop B first) (stop B x) P O.first_covered.seen (hidden x o z by ap (λ (c : ℕ). neg_ℤ (Orient (site B c) (stop B x) P)) q)
         (right_u (m₀.origin (twin x)) (in_stop B x o)) (on_line B (omega arith) first first_was.in_e (m₀.origin (twin x)) (in_stop B x o)) (ends_apart B x o.in_e by ap (λ (c : ℕ). Dist² (site B c) (stop B x)) q)
   ]
 

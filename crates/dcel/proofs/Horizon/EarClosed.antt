@@ -1,24 +1,16 @@
 -- What is read from a map after an ear has been closed at e = uv, which vw follows.
 use Rattle.std.proofs.Common.{◌≡◌, ℕ, ◌+◌, ◌<◌, ◌≢◌, ◌⊎◌, sym, ap, ◌∙◌, inl, inr, arith}
-use native.Mathlib.Decide.{ℕ_discrete, dec_lt}
+use Rattle.std.proofs.lemmas.Bool.{cases_eq, cases_lt}
+use Rattle.dcel.specs.Pairs.{reversed}
 use Rattle.dcel.specs.Map.{Map, twin}
 use Rattle.dcel.specs.Mesh.{Among, Sound, Mesh}
 use Rattle.dcel.specs.Patch.{patched}
 use Rattle.dcel.specs.Surgery.{Ear, ear_patch}
+use Rattle.dcel.proofs.Changes.{elsewhere}
 use Rattle.dcel.proofs.Fits.{IsPatched, is_patched}
 use Rattle.dcel.proofs.EarClose.{ear_surgery}
 use Rattle.dcel.proofs.Neighbours.{Neighbours, neighbours, new_pairs}
 use Rattle.dcel.proofs.Horizon.Kept.{Kept}
-
--- an old number is none of the places
-off_four : (E a b x : ℕ) → x < E → x ≢ a → x ≢ b → (x ≡ a) ⊎ ((x ≡ b) ⊎ ((x ≡ E + 1) ⊎ ((x ≡ E) ⊎ ⊥))) → ⊥
-off_four E a b x h p q k = grind arith
-
-off_tails : (E a b c x : ℕ) → x < E → x ≢ a → x ≢ b → x ≢ c → (x ≡ a) ⊎ ((x ≡ b) ⊎ ((x ≡ E + 1) ⊎ ((x ≡ c) ⊎ ((x ≡ E) ⊎ ⊥)))) → ⊥
-off_tails E a b c x h p q r k = grind arith
-
-off_heads : (E a b c x : ℕ) → x < E → x ≢ a → x ≢ b → x ≢ c → (x ≡ b) ⊎ ((x ≡ E + 1) ⊎ ((x ≡ a) ⊎ ((x ≡ E) ⊎ ((x ≡ c) ⊎ ⊥)))) → ⊥
-off_heads E a b c x h p q r k = grind arith
 
 pub record EarClosed (m n : Map) (e : ℕ) : Type 0 where
   pub sound : Sound m
@@ -98,19 +90,19 @@ module _ {m n : Map} {e : ℕ} (K : EarClosed m n e) where
 
   -- ---- what was there
   pub origin_old : (x : ℕ) → x < m.half_edges → n.origin x ≡ m.origin x
-  origin_old x h = d.origin_off x (λ k. grind arith)
+  origin_old x h = d.origin_off x (elsewhere (ear_patch m e).origins x (omega arith))
 
   pub face_old : (x : ℕ) → x < m.half_edges → x ≢ e → x ≢ vw → n.face x ≡ m.face x
-  face_old x h a b = d.face_off x (off_four m.half_edges e vw x h a b)
+  face_old x h a b = d.face_off x (elsewhere (ear_patch m e).sides x (omega arith))
 
   pub next_old : (x : ℕ) → x < m.half_edges → x ≢ e → x ≢ vw → x ≢ m.prev e → n.next x ≡ m.next x
-  next_old x h a b c = d.next_off x (off_tails m.half_edges e vw (m.prev e) x h a b c)
+  next_old x h a b c = d.next_off x (elsewhere (ear_patch m e).links x (omega arith))
 
   pub prev_old : (x : ℕ) → x < m.half_edges → x ≢ e → x ≢ vw → x ≢ m.next vw → n.prev x ≡ m.prev x
-  prev_old x h a b c = d.prev_off x (off_heads m.half_edges e vw (m.next vw) x h a b c)
+  prev_old x h a b c = d.prev_off x (elsewhere (reversed (ear_patch m e).links) x (omega arith))
 
   pub edge_old : (f : ℕ) → f ≢ m.faces → n.edge f ≡ m.edge f
-  edge_old f h = d.edge_off f (λ k. elim k [ inl q ↦ h q | inr k ↦ k ])
+  edge_old f h = d.edge_off f (elsewhere (ear_patch m e).edges f (omega arith))
 
   pub out_old : (v : ℕ) → n.out v ≡ m.out v
   out_old v = d.out_off v (λ k. k)
@@ -125,13 +117,13 @@ module _ {m n : Map} {e : ℕ} (K : EarClosed m n e) where
 
   -- what is inner was so, or is a side of the new face
   pub inner_then : (x : ℕ) → x < n.half_edges → n.face x ≢ 0 → ((x < m.half_edges) × (m.face x ≢ 0)) ⊎ Among x e vw wu
-  inner_then x h z = elim (ℕ_discrete x e) [
-    | yes q ↦ inr (inl q)
-    | no a ↦ elim (ℕ_discrete x vw) [
-      | yes q ↦ inr (inr (inl q))
-      | no b ↦ elim (dec_lt x m.half_edges) [
-        | yes l ↦ inl (l, λ q. z (face_old x l a b ∙ q))
-        | no l ↦ elim (ℕ_discrete x uw) [ yes q ↦ absurd (z (ap n.face q ∙ face_uw)) | no q ↦ inr (inr (inr (omega (arith, d.half_edges_is)))) ]
+  inner_then x h z = elim (cases_eq x e) [
+    | inl q ↦ inr (inl q)
+    | inr a ↦ elim (cases_eq x vw) [
+      | inl q ↦ inr (inr (inl q))
+      | inr b ↦ elim (cases_lt x m.half_edges) [
+        | inl l ↦ inl (l, λ q. z (face_old x l a b ∙ q))
+        | inr l ↦ elim (cases_eq x uw) [ inl q ↦ absurd (z (ap n.face q ∙ face_uw)) | inr q ↦ inr (inr (inr (omega (arith, d.half_edges_is)))) ]
       ]
     ]
   ]
@@ -144,9 +136,9 @@ module _ {m n : Map} {e : ℕ} (K : EarClosed m n e) where
     pub outer : m.face x ≡ 0
 
   pub outer_then : (x : ℕ) → x < n.half_edges → n.face x ≡ 0 → (x ≡ uw) ⊎ StillOuter x
-  outer_then x h z = elim (dec_lt x m.half_edges) [
-    | yes l ↦ inr (still l)
-    | no l ↦ elim (ℕ_discrete x uw) [ yes q ↦ inl q | no q ↦ absurd (side x (omega (arith, d.half_edges_is)) face_wu z) ]
+  outer_then x h z = elim (cases_lt x m.half_edges) [
+    | inl l ↦ inr (still l)
+    | inr l ↦ elim (cases_eq x uw) [ inl q ↦ inl q | inr q ↦ absurd (side x (omega (arith, d.half_edges_is)) face_wu z) ]
   ]
     where
       side : (x : ℕ) {y : ℕ} → x ≡ y → n.face y ≡ m.faces → n.face x ≡ 0 → ⊥

@@ -1,7 +1,7 @@
 -- The first half edge that p sees: where the one before it is not seen, all vertices are right of or on the line from there to p.
 use Rattle.std.proofs.Common.{◌≡◌, ℕ, ◌<◌, ◌≤◌, neg_ℤ, sym, ap, ◌∙◌, subst, inl, inr, arith}
-use native.Mathlib.Decide.{dec_lt}
-use borrow.Author.Differences.{ints}
+use Rattle.std.proofs.lemmas.Bool.{cases_lt}
+use Rattle.std.proofs.lemmas.Int.{ints}
 use Rattle.exact.specs.Plane.{Point}
 use Rattle.exact.proofs.Algebra.Signs.{◌by◌, split}
 use Rattle.exact.proofs.Geometry.Words.{Site, Orient, Dist², Right, RightOn, Between}
@@ -60,10 +60,10 @@ module _ {pos : ℕ → Point} {m : Map} (B : Placed pos m) where
         there = (strict by swap (stop B y) (start B y) P) by ap (λ (c : ℕ). Orient (stop B y) (at (m.origin c)) P) (twin_twin y)
 
     pub tangent_start : (z : ℕ) → z < m.vertices → RightOn (at u) P (at z)
-    tangent_start z l = elim (dec_lt 1 m.faces) [
-      | yes f ↦ (let k = beside B f x o in
+    tangent_start z l = elim (cases_lt 1 m.faces) [
+      | inl f ↦ (let k = beside B f x o in
           tangent_start_at (start B y) (at u) (stop B x) P (at k.0) (at z) hidden seen (to_u (m.origin (twin x)) (S.origin_in (twin x) (S.twin_in x o.in_e))) (ends_apart B y oy.in_e by ap (λ (c : ℕ). Dist² (start B y) (at c)) near.origin_here) (to_u k.0 k.1) k.2 (to_u z l) (right_on B x o z l))
-      | no f ↦ (let g : m.faces ≤ 1 = omega arith in
+      | inr f ↦ (let g : m.faces ≤ 1 = omega arith in
           line_tangent_start (at u) (stop B x) P (at z) seen (on_line B g x o.in_e z l) (none g))
     ]
       where

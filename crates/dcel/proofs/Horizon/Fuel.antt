@@ -1,27 +1,13 @@
 -- How many ears can be closed: each takes one outer half edge away, and one always stays.
-use Rattle.std.proofs.Common.{◌≡◌, ℕ, zero, suc, ◌+◌, ◌-◌, ◌<◌, ◌≤◌, ap, ◌∙◌, arith}
-use native.Mathlib.Decide.{ℕ_discrete}
+use Rattle.std.proofs.Common.{◌≡◌, ℕ, ◌+◌, ◌-◌, ◌≤◌, arith}
 use Rattle.dcel.specs.Map.{Map}
-use Rattle.dcel.specs.Mesh.{zero_bit, zero_count, outer_count, Mesh}
+use Rattle.dcel.specs.Mesh.{outer_count, Mesh}
 use Rattle.dcel.specs.Patch.{patched}
 use Rattle.dcel.specs.Surgery.{Outer, attach_patch, Ear, ear_patch}
-use Rattle.dcel.proofs.Counting.{zero_bit_positive, zero_bit_is}
+use Rattle.dcel.proofs.Counting.{zero_count_most, zero_count_some}
 use Rattle.dcel.proofs.OuterAttach.{attach_surgery}
 use Rattle.dcel.proofs.EarClose.{ear_surgery}
 use Rattle.dcel.proofs.Horizon.EarClosed.{ear_closed, face_uw}
-
-zero_bit_one : (v : ℕ) → zero_bit v ≤ 1
-zero_bit_one v = elim (ℕ_discrete v 0) [ yes q ↦ omega (arith, zero_bit_is v q) | no q ↦ omega (arith, zero_bit_positive v q) ]
-
-zero_count_most : (f : ℕ → ℕ) (n : ℕ) → zero_count f n ≤ n
-unfolding zero_count
-zero_count_most f zero = omega arith
-zero_count_most f (suc n) = omega (arith, zero_bit_one (f n), zero_count_most f n)
-
-zero_count_some : (f : ℕ → ℕ) (n k : ℕ) → k < n → f k ≡ 0 → 1 ≤ zero_count f n
-unfolding zero_count
-zero_count_some f zero k l q = absurd (omega arith)
-zero_count_some f (suc n) k l q = elim (ℕ_discrete n k) [ yes r ↦ omega (arith, zero_bit_is (f n) (ap f r ∙ q)) | no r ↦ omega (arith, zero_count_some f n k (omega arith) q) ]
 
 -- outer half edges but for one
 abbrev pub to_close : Map → ℕ

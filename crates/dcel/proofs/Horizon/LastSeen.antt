@@ -1,6 +1,6 @@
 -- The last half edge that p sees: where the one that follows it is not seen, all vertices are right of or on the line from p to there.
-use Rattle.std.proofs.Common.{◌≡◌, ℕ, ◌<◌, ◌≤◌, neg_ℤ, sym, ap, ◌∙◌, arith}
-use native.Mathlib.Decide.{dec_lt}
+use Rattle.std.proofs.Common.{◌≡◌, ℕ, ◌<◌, ◌≤◌, neg_ℤ, sym, ap, ◌∙◌, arith, inl, inr}
+use Rattle.std.proofs.lemmas.Bool.{cases_lt}
 use Rattle.exact.specs.Plane.{Point}
 use Rattle.exact.proofs.Algebra.Signs.{◌by◌, weak}
 use Rattle.exact.proofs.Geometry.Words.{Site, Orient, Dist², RightOn}
@@ -57,9 +57,9 @@ module _ {pos : ℕ → Point} {m : Map} (B : Placed pos m) where
         back = weak seen by sym (swap (start B x) (at v) P)
 
     pub tangent_end : (z : ℕ) → z < m.vertices → RightOn P (at v) (at z)
-    tangent_end z l = elim (dec_lt 1 m.faces) [
-      | yes f ↦ (let k = beside B f x o in
+    tangent_end z l = elim (cases_lt 1 m.faces) [
+      | inl f ↦ (let k = beside B f x o in
           tangent_end_at (start B x) (at v) (stop B y) P (at k.0) (at z) seen hidden (right_on B x o (m.origin (twin y)) (S.origin_in (twin y) (S.twin_in y oy.in_e))) (ends_apart B y oy.in_e by ap (λ (c : ℕ). Dist² (at c) (stop B y)) (sym near.origin_next)) k.2 (from_v k.0 k.1) (right_on B x o z l) (from_v z l))
-      | no f ↦ (let g : m.faces ≤ 1 = omega arith in
+      | inr f ↦ (let g : m.faces ≤ 1 = omega arith in
           line_tangent_end (start B x) (at v) P (at z) seen (on_line B g x o.in_e z l) (not_strictly_between→ (pos (m.origin x)) (pos z) (pos v) (B.geometric.ends g x o.in_e (turns_back g) z l)))
     ]

@@ -1,6 +1,6 @@
 -- Between attaching a vertex outside and closing the last ear: what holds of the grown mesh, by the old one.
 use Rattle.std.proofs.Common.{◌≡◌, ℕ, ◌<◌, ◌≤◌, true, false, ◌≢◌, ◌⊎◌, neg_ℤ, sym, ap, ◌∙◌, inl, inr, arith}
-use borrow.Author.Differences.{ints}
+use Rattle.std.proofs.lemmas.Int.{ints}
 use Rattle.exact.specs.Plane.{Point}
 use Rattle.exact.proofs.Algebra.Signs.{Sign, ◌by◌, clash_zero}
 use Rattle.exact.proofs.Geometry.Words.{orient, Orient}

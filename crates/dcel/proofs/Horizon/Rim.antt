@@ -1,7 +1,7 @@
 -- The outer half edges of a mesh and the next vertex p, outside: those that p sees, strictly on their left, and that no two of them begin at one vertex.
 use Rattle.std.proofs.Common.{◌≡◌, ℕ, ◌<◌, ◌≤◌, true, false, neg_ℤ, sym, ap, subst, inl, inr, arith}
-use native.Mathlib.Decide.{dec_lt}
-use borrow.Author.Differences.{ints}
+use Rattle.std.proofs.lemmas.Bool.{cases_lt}
+use Rattle.std.proofs.lemmas.Int.{ints}
 use Rattle.exact.specs.Plane.{Point}
 use Rattle.exact.proofs.Algebra.Signs.{Sign, ◌by◌, split, clash, clash_zero}
 use Rattle.exact.proofs.Geometry.Words.{orient, Site, Orient, Dist², Right, LeftOn, On, Same, Between}
@@ -55,15 +55,15 @@ module _ {pos : ℕ → Point} {m : Map} (B : Placed pos m) where
 
   -- an outer half edge is known by its origin and by whether p sees it
   pub same_visible : (x y : ℕ) → Outer m x → Outer m y → m.origin x ≡ m.origin y → Visible x → Visible y → x ≡ y
-  same_visible x y ox oy q hx hy = elim (dec_lt 1 m.faces) [
-    | yes f ↦ G.once f x y ox.in_e oy.in_e ox.outer oy.outer q
-    | no f ↦ same_way (omega arith) x y ox oy q (through_left (start B x) (stop B x) (stop B y) p hx (hy by ap (λ (c : ℕ). Orient (site B c) (stop B y) p) q))
+  same_visible x y ox oy q hx hy = elim (cases_lt 1 m.faces) [
+    | inl f ↦ G.once f x y ox.in_e oy.in_e ox.outer oy.outer q
+    | inr f ↦ same_way (omega arith) x y ox oy q (through_left (start B x) (stop B x) (stop B y) p hx (hy by ap (λ (c : ℕ). Orient (site B c) (stop B y) p) q))
   ]
 
   pub same_hidden : (e : ℕ) → Outer m e → Visible e → (x y : ℕ) → Outer m x → Outer m y → m.origin x ≡ m.origin y → Hidden x → Hidden y → x ≡ y
-  same_hidden e o h x y ox oy q hx hy = elim (dec_lt 1 m.faces) [
-    | yes f ↦ G.once f x y ox.in_e oy.in_e ox.outer oy.outer q
-    | no f ↦ (let l : m.faces ≤ 1 = omega arith in same_way l x y ox oy q (through_right (start B x) (stop B x) (stop B y) p (strict l x ox hx) (strict l y oy hy by ap (λ (c : ℕ). neg_ℤ (Orient (site B c) (stop B y) p)) q)))
+  same_hidden e o h x y ox oy q hx hy = elim (cases_lt 1 m.faces) [
+    | inl f ↦ G.once f x y ox.in_e oy.in_e ox.outer oy.outer q
+    | inr f ↦ (let l : m.faces ≤ 1 = omega arith in same_way l x y ox oy q (through_right (start B x) (stop B x) (stop B y) p (strict l x ox hx) (strict l y oy hy by ap (λ (c : ℕ). neg_ℤ (Orient (site B c) (stop B y) p)) q)))
   ]
     where
       strict : m.faces ≤ 1 → (z : ℕ) → Outer m z → Hidden z → Right (start B z) (stop B z) p

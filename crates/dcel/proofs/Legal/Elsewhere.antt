@@ -1,6 +1,6 @@
 -- A place in a closed face, or on its border, that is at none of its corners is no vertex's: so a vertex put there is where no other is.
 use Rattle.std.proofs.Common.{◌≡◌, ℕ, ◌<◌, false, ◌≢◌, sym, ap, ◌∙◌, subst, inl, inr, arith}
-use native.Mathlib.Decide.{ℕ_discrete}
+use Rattle.std.proofs.lemmas.Bool.{cases_eq}
 use Rattle.exact.specs.Plane.{Point}
 use Rattle.exact.proofs.Algebra.Signs.{clash_zero}
 use Rattle.exact.proofs.Geometry.Words.{Within, Site, Left, Apart, Inside}
@@ -28,9 +28,9 @@ module _ (pos : ℕ → Point) (m : Map) (S : Sound m) (G : Geometric pos m) whe
 
   -- where there is a face, each vertex begins an inner half edge
   pub inner_from : 1 < m.faces → (u : ℕ) → u < m.vertices → (x : ℕ) × (x < m.half_edges) × (m.face x ≢ 0) × (m.origin x ≡ u)
-  inner_from some u l = elim (ℕ_discrete (m.face x) 0) [
-    | yes q ↦ (m.next (twin x), S.next_in _ (S.twin_in x h), (λ z. two_sides S G some x h q (sym (S.face_next _ (S.twin_in x h)) ∙ z)), S.origin_next _ (S.twin_in x h) ∙ ap m.origin (twin_twin x) ∙ S.out_origin u l)
-    | no q ↦ (x, h, q, S.out_origin u l)
+  inner_from some u l = elim (cases_eq (m.face x) 0) [
+    | inl q ↦ (m.next (twin x), S.next_in _ (S.twin_in x h), (λ z. two_sides S G some x h q (sym (S.face_next _ (S.twin_in x h)) ∙ z)), S.origin_next _ (S.twin_in x h) ∙ ap m.origin (twin_twin x) ∙ S.out_origin u l)
+    | inr q ↦ (x, h, q, S.out_origin u l)
   ]
     where
       x : ℕ

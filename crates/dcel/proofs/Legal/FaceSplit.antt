@@ -9,7 +9,7 @@ use Rattle.dcel.specs.Patch.{Patch}
 use Rattle.dcel.specs.Surgery.{Inner, split_face_change, split_face_patch}
 use Rattle.dcel.specs.Geometry.{Geometric}
 use Rattle.dcel.specs.Legal.{EdgeListed, Ready}
-use Rattle.dcel.proofs.Changes.{below_places}
+use Rattle.dcel.proofs.Changes.{elsewhere}
 use Rattle.dcel.proofs.Fits.{IsPatched, Relinks, Fits}
 use Rattle.dcel.proofs.Neighbours.{InTriangle, in_triangle, new_pairs}
 use Rattle.dcel.proofs.Sites.{site, face_left, outer_right, ends_apart}
@@ -30,7 +30,7 @@ module _ (pos : ℕ → Point) (m : Map) (S : Sound m) (e : ℕ) (may : Inner m 
   here = in_triangle m S e may.in_e may.inner
 
   pub origin_same : (x : ℕ) → x < m.half_edges → n.origin x ≡ m.origin x
-  origin_same x h = D.origin_off x (below_places p.origins m.half_edges x (omega arith) h)
+  origin_same x h = D.origin_off x (elsewhere p.origins x (omega arith))
 
   twin_same : (x : ℕ) → x < m.half_edges → n.origin (twin x) ≡ m.origin (twin x)
   twin_same x h = origin_same (twin x) (S.twin_in x h)

@@ -1,6 +1,6 @@
 -- A flip of a wrong edge takes from the volume exactly what the circle's determinant says.
 use Rattle.std.proofs.Common.{◌≡◌, ℕ, suc, ◌+◌, ◌-◌, ◌<◌, ◌≢◌, ◌⊎◌, pos as whole, ◌+ℤ◌, sym, refl, ap, ◌∙◌, inl, inr, arith}
-use borrow.Author.Differences.{ints}
+use Rattle.std.proofs.lemmas.Int.{ints}
 use Rattle.exact.specs.Plane.{Point}
 use Rattle.exact.specs.Sums.{sum}
 use Rattle.exact.proofs.Geometry.Words.{Site, Incircle, Volume}
@@ -18,7 +18,7 @@ use Rattle.dcel.proofs.PatchSound.{patched_sound}
 use Rattle.dcel.proofs.Neighbours.{two_faces}
 use Rattle.dcel.proofs.Legal.Keeping.{SameFace, same_face_at}
 use Rattle.dcel.proofs.Legal.WrongEdge.{WrongEdge, a, b, c, d, near, far, old_near, old_far, inside, new_near, new_far, from_e, to_e, apex_e, apex_twin, flip_geometric}
-use Rattle.dcel.proofs.Legal.SumChanges.{two_changes}
+use Rattle.dcel.proofs.SumChanges.{two_changes}
 use Rattle.dcel.proofs.Legal.Prisms.{prism_is, face_prism}
 
 module _ (pos : ℕ → Point) (m : Map) (S : Sound m) (G : Geometric pos m) (e : ℕ) (bad : WrongEdge pos m e) (n : Map) (D : IsPatched m n (flip_patch m e)) (relinks : Relinks m (flip_patch m e)) (w : Fits m n (flip_patch m e)) where

@@ -1,16 +1,16 @@
 -- Splitting an edge e = ab with the face abc on its left and the outside across it at p: the corners of the two faces, and which half edges are outer.
-use Rattle.std.proofs.Common.{◌≡◌, ℕ, ◌+◌, ◌<◌, ◌≢◌, ◌⊎◌, [], ◌∷◌, sym, ap, ◌∙◌, subst, inl, inr, arith}
-use native.Mathlib.Decide.{ℕ_discrete, dec_lt}
+use Rattle.std.proofs.Common.{◌≡◌, ℕ, ◌+◌, ◌<◌, ◌≢◌, ◌⊎◌, sym, ap, ◌∙◌, subst, inl, inr, arith}
+use Rattle.std.proofs.lemmas.Bool.{cases_eq, cases_lt}
 use Rattle.exact.specs.Plane.{Point}
-use Rattle.dcel.specs.Pairs.{Pairs, Source}
+use Rattle.dcel.specs.Pairs.{Source}
 use Rattle.dcel.specs.Map.{Map, twin}
 use Rattle.dcel.specs.Mesh.{Sound}
 use Rattle.dcel.specs.Patch.{Patch}
 use Rattle.dcel.specs.EdgeSurgery.{HullEdge, split_hull_edge_patch}
 use Rattle.dcel.specs.Legal.{EdgeListed, Ready}
-use Rattle.dcel.proofs.Changes.{source?, below_places}
+use Rattle.dcel.proofs.Changes.{source?, elsewhere}
 use Rattle.dcel.proofs.Fits.{IsPatched, Relinks, Fits}
-use Rattle.dcel.proofs.Twins.{twin_twin, twin_ne}
+use Rattle.dcel.proofs.Twins.{twin_twin, twin_ne, twin_apart}
 use Rattle.dcel.proofs.Neighbours.{InTriangle, in_triangle, new_pairs}
 use Rattle.dcel.proofs.Legal.Keeping.{listed_other, ready_keep, SameOuter}
 
@@ -25,14 +25,7 @@ module _ (m : Map) (S : Sound m) (e : ℕ) (may : HullEdge m e) (n : Map) (D : I
   near = in_triangle m S e may.in_e may.left
 
   origin_same : (x : ℕ) → x < m.half_edges → x ≢ twin e → n.origin x ≡ m.origin x
-  origin_same x h q = D.origin_off x off
-    where
-      new : Pairs
-      new = (m.half_edges, 0) ∷ (m.half_edges + 1, 0) ∷ (m.half_edges + 2, 0) ∷ (m.half_edges + 3, 0) ∷ []
-
-      off : Source x p.origins → ⊥
-      off (inl r) = q r
-      off (inr k) = below_places new m.half_edges x (omega arith) h k
+  origin_same x h q = D.origin_off x (elsewhere p.origins x (omega arith))
 
   pub from_e : n.origin e ≡ m.origin e
   from_e = origin_same e may.in_e (λ q. twin_ne e (sym q))
@@ -55,30 +48,20 @@ module _ (m : Map) (S : Sound m) (e : ℕ) (may : HullEdge m e) (n : Map) (D : I
 
   -- what is outer: the two at p, and what was so
   pub outer_kinds : (x : ℕ) → x < n.half_edges → n.face x ≡ 0 → (x ≡ twin e) ⊎ (x ≡ m.half_edges + 1) ⊎ ((x ≢ twin e) × SameOuter m n S p D relinks w x)
-  outer_kinds x h z = elim (source? x p.sides) [ inl k ↦ listed k | inr f ↦ elim (ℕ_discrete x (twin e)) [ yes q ↦ inl q | no q ↦ inr (inr (q, kept f q)) ] ]
+  outer_kinds x h z = elim (source? x p.sides) [ inl k ↦ listed k | inr f ↦ elim (cases_eq x (twin e)) [ inl q ↦ inl q | inr q ↦ inr (inr (q, kept f q)) ] ]
     where
-      at : (y f : ℕ) → n.face y ≡ f → f ≢ 0 → x ≡ y → ⊥
-      at y f q r t = r (sym q ∙ ap n.face (sym t) ∙ z)
-
       listed : Source x p.sides → (x ≡ twin e) ⊎ (x ≡ m.half_edges + 1) ⊎ ((x ≢ twin e) × SameOuter m n S p D relinks w x)
-      listed (inl q) = absurd (at _ _ D.face_at.0 may.left q)
-      listed (inr (inl q)) = absurd (at _ _ D.face_at.1.0 may.left q)
-      listed (inr (inr (inl q))) = absurd (at _ _ D.face_at.1.1.0 may.left q)
-      listed (inr (inr (inr (inl q)))) = absurd (at _ _ D.face_at.1.1.1.0 (omega (arith, S.face_in e may.in_e)) q)
-      listed (inr (inr (inr (inr (inl q))))) = absurd (at _ _ D.face_at.1.1.1.1.0 (omega (arith, S.face_in e may.in_e)) q)
-      listed (inr (inr (inr (inr (inr (inl q)))))) = absurd (at _ _ D.face_at.1.1.1.1.1.0 (omega (arith, S.face_in e may.in_e)) q)
-      listed (inr (inr (inr (inr (inr (inr (inl q))))))) = inr (inl q)
-      listed (inr (inr (inr (inr (inr (inr (inr k))))))) = absurd k
+      listed k = inr (inl (let f = D.face_at in let a = may.left in let b = S.face_in e may.in_e in grind arith))
 
       kept : (Source x p.sides → ⊥) → x ≢ twin e → SameOuter m n S p D relinks w x
       kept f q =
-          let o : x < m.half_edges = elim (dec_lt x m.half_edges) [ yes l ↦ l | no l ↦ absurd (f (w.new_edge x (omega arith) h).2) ] in
+          let o : x < m.half_edges = elim (cases_lt x m.half_edges) [ inl l ↦ l | inr l ↦ absurd (f (w.new_edge x (omega arith) h).2) ] in
           let was : m.face x ≡ 0 = sym (D.face_off x f) ∙ z in
           record {
             old = o;
             outer = was;
             from_is = origin_same x o q;
-            to_is = origin_same (twin x) (S.twin_in x o) (λ r. may.left (ap m.face (sym (sym (twin_twin x) ∙ ap twin r ∙ twin_twin e)) ∙ was));
+            to_is = origin_same (twin x) (S.twin_in x o) (twin_apart x e (λ r. may.left (ap m.face (sym r) ∙ was)));
           }
 
   -- what is said of the ends of p a, of b p, and of every outer half edge that stays

@@ -1,6 +1,6 @@
 -- A new vertex p strictly between the ends of an edge e = ab with the face abc on its left and the outside across it keeps the geometry.
 use Rattle.std.proofs.Common.{◌≡◌, ℕ, ◌+◌, ◌<◌, ◌≢◌, ◌⊎◌, neg_ℤ, sym, ap, ◌∙◌, subst, inl, inr, arith}
-use borrow.Author.Differences.{ints}
+use Rattle.std.proofs.lemmas.Int.{ints}
 use Rattle.exact.specs.Plane.{Point}
 use Rattle.exact.proofs.Algebra.Signs.{◌by◌, zero_sign_neg}
 use Rattle.exact.proofs.Geometry.Words.{InSegment, Site, Orient, Left, RightOn, On, Between}

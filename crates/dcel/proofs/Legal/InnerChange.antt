@@ -1,6 +1,6 @@
 -- A change of inner faces alone keeps the geometry, if the faces that it makes turn to the left and a new vertex is strictly inside the hull and where no other is.
-use Rattle.std.proofs.Common.{◌≡◌, ℕ, ◌+◌, ◌<◌, ◌≤◌, false, ◌≢◌, [], neg_ℤ, sym, ap, ◌∙◌, subst, arith}
-use native.Mathlib.Decide.{dec_lt}
+use Rattle.std.proofs.Common.{◌≡◌, ℕ, ◌+◌, ◌<◌, ◌≤◌, false, ◌≢◌, [], neg_ℤ, sym, ap, ◌∙◌, subst, arith, inl, inr}
+use Rattle.std.proofs.lemmas.Bool.{cases_lt}
 use Rattle.exact.specs.Plane.{Point, left_of}
 use Rattle.exact.proofs.Algebra.Signs.{weak, zero_sign_neg, clash}
 use Rattle.exact.proofs.Geometry.Words.{Right}
@@ -45,12 +45,12 @@ module _ (pos : ℕ → Point) (m n : Map) (S : Sound m) (G : Geometric pos m) (
     outer = same_outer m n S (patch_of c) d relinks w (at_links n (λ f. f ≢ 0) c.triangles c.chain c.others d.face_at inner (none _))
 
     right : (e : ℕ) → e < m.half_edges → m.face e ≡ 0 → (v : ℕ) → v < n.vertices → left_of (from pos m e) (to pos m e) (pos v) ≡ false
-    right e h z v l = elim (dec_lt v m.vertices) [ yes o ↦ G.right e h z v o | no o ↦ not_left← _ _ _ (weak (new.right v (omega arith) l e h z)) ]
+    right e h z v l = elim (cases_lt v m.vertices) [ inl o ↦ G.right e h z v o | inr o ↦ not_left← _ _ _ (weak (new.right v (omega arith) l e h z)) ]
 
     clear : (e : ℕ) → e < m.half_edges → m.face e ≡ 0 → (v : ℕ) → v < n.vertices → strictly_between (from pos m e) (to pos m e) (pos v) ≡ false
-    clear e h z v l = elim (dec_lt v m.vertices) [
-      | yes o ↦ G.clear e h z v o
-      | no o ↦ not_strictly_between← _ _ _ (λ b. clash (new.right v (omega arith) l e h z) (zero_sign_neg _ (ap neg_ℤ b.on)))
+    clear e h z v l = elim (cases_lt v m.vertices) [
+      | inl o ↦ G.clear e h z v o
+      | inr o ↦ not_strictly_between← _ _ _ (λ b. clash (new.right v (omega arith) l e h z) (zero_sign_neg _ (ap neg_ℤ b.on)))
     ]
 
     pub inner_geometric : Geometric pos n

@@ -1,19 +1,18 @@
 -- A new vertex p strictly between the ends of an edge e = ab between the faces abc and bad keeps the geometry.
-use Rattle.std.proofs.Common.{◌≡◌, ℕ, ◌+◌, ◌<◌, ◌≢◌, [], ◌∷◌, sym, refl, ap, ◌∙◌, inl, inr, arith}
+use Rattle.std.proofs.Common.{◌≡◌, ℕ, ◌+◌, ◌<◌, ◌≢◌, sym, refl, ap, ◌∙◌, arith}
 use Rattle.exact.specs.Plane.{Point}
 use Rattle.exact.proofs.Algebra.Signs.{◌by◌}
 use Rattle.exact.proofs.Geometry.Words.{Site, Orient, Left, Right, Between}
 use Rattle.exact.proofs.Geometry.Betweenness.{between_swap}
 use Rattle.exact.proofs.Geometry.Interior.{on_edge_right}
 use Rattle.exact.proofs.Geometry.Split.{edge_left, edge_right}
-use Rattle.dcel.specs.Pairs.{Pairs, Source}
 use Rattle.dcel.specs.Map.{Map, twin}
 use Rattle.dcel.specs.Mesh.{Sound}
 use Rattle.dcel.specs.Patch.{Patch}
 use Rattle.dcel.specs.EdgeSurgery.{InnerEdge, split_inner_edge_change, split_inner_edge_patch}
 use Rattle.dcel.specs.Geometry.{Geometric}
 use Rattle.dcel.specs.Legal.{EdgeListed, Ready}
-use Rattle.dcel.proofs.Changes.{below_places}
+use Rattle.dcel.proofs.Changes.{elsewhere}
 use Rattle.dcel.proofs.Fits.{IsPatched, Relinks, Fits}
 use Rattle.dcel.proofs.Twins.{twin_twin, twin_ne}
 use Rattle.dcel.proofs.Neighbours.{InTriangle, in_triangle, two_faces, new_pairs}
@@ -38,14 +37,7 @@ module _ (pos : ℕ → Point) (m : Map) (S : Sound m) (e : ℕ) (may : InnerEdg
 
   -- old half edges but the twin of e begin where they did
   origin_same : (x : ℕ) → x < m.half_edges → x ≢ twin e → n.origin x ≡ m.origin x
-  origin_same x h q = D.origin_off x off
-    where
-      new : Pairs
-      new = (m.half_edges, 0) ∷ (m.half_edges + 1, 0) ∷ (m.half_edges + 2, 0) ∷ (m.half_edges + 3, 0) ∷ (m.half_edges + 4, 0) ∷ (m.half_edges + 5, 0) ∷ []
-
-      off : Source x p.origins → ⊥
-      off (inl r) = q r
-      off (inr k) = below_places new m.half_edges x (omega arith) h k
+  origin_same x h q = D.origin_off x (elsewhere p.origins x (omega arith))
 
   from_e : n.origin e ≡ m.origin e
   from_e = origin_same e may.in_e (λ q. twin_ne e (sym q))

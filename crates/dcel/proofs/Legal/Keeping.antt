@@ -1,6 +1,6 @@
 -- What a patch that fits keeps of the corners of faces, of the ends of outer half edges, and of edges that are right.
-use Rattle.std.proofs.Common.{◌≡◌, ℕ, ◌<◌, ◌≢◌, sym, ap, ◌∙◌, subst, inl, inr, arith}
-use native.Mathlib.Decide.{dec_lt}
+use Rattle.std.proofs.Common.{◌≡◌, ℕ, ◌<◌, ◌≢◌, sym, ap, ◌∙◌, subst, inl, inr, arith, ⊎_elim}
+use Rattle.std.proofs.lemmas.Bool.{cases_lt}
 use Rattle.exact.specs.Plane.{Point, inside_circle}
 use Rattle.dcel.specs.Pairs.{All, Source, Target}
 use Rattle.dcel.specs.Map.{Map, twin}
@@ -62,7 +62,7 @@ module _ (m n : Map) (S : Sound m) (p : Patch) (d : IsPatched m n p) (relinks : 
       tail k = (at_source _ p.links inside e k).1 z
 
       old : e < m.half_edges
-      old = elim (dec_lt e m.half_edges) [ yes l ↦ l | no l ↦ absurd (tail (w.new_edge e (omega arith) h).0) ]
+      old = elim (cases_lt e m.half_edges) [ inl l ↦ l | inr l ↦ absurd (tail (w.new_edge e (omega arith) h).0) ]
 
       head : Target e p.links → ⊥
       head k = let r = at_target _ p.links (both _ _ p.links inside w.same_side) e k in r.1.0 (sym r.1.1 ∙ z)
@@ -84,7 +84,7 @@ module _ (m n : Map) (S : Sound m) (c : Change) (d : IsPatched m n (patch_of c))
   pub corners_keep : (P : ℕ → ℕ → ℕ → Type 0) → ((a b c : ℕ) → P a b c → P b c a) → ((e : ℕ) → e < m.half_edges → m.face e ≢ 0 → Corners P m e) →
       All (λ e g. n.face e ≡ 0) c.chain → All (λ f e. Corners P n e) (triangle_edges c.triangles) →
       (e : ℕ) → e < n.half_edges → n.face e ≢ 0 → Corners P n e
-  corners_keep P turned old outer new e h z = elim (source? e (patch_of c).links) [ inl k ↦ by k | inr f ↦ off f ]
+  corners_keep P turned old outer new e h z = ⊎_elim by off (source? e (patch_of c).links)
     where
       by : Source e (patch_of c).links → Corners P n e
       by k =

@@ -1,7 +1,7 @@
 -- A new vertex p past the end b of a line, where e = ab turns back, keeps the geometry.
 use Rattle.std.proofs.Common.{◌≡◌, ℕ, ◌+◌, ◌<◌, ◌≤◌, false, ◌≢◌, ◌⊎◌, ◌-ℤ◌, sym, ap, ◌∙◌, subst, inl, inr, arith}
-use native.Mathlib.Decide.{ℕ_discrete, dec_lt}
-use borrow.Author.Differences.{ints}
+use Rattle.std.proofs.lemmas.Bool.{cases_eq, cases_lt}
+use Rattle.std.proofs.lemmas.Int.{ints}
 use Rattle.exact.specs.Plane.{Point}
 use Rattle.exact.proofs.Algebra.Signs.{Sign}
 use Rattle.exact.proofs.Geometry.Words.{InSegment, Site, On, Apart, Between}
@@ -13,7 +13,7 @@ use Rattle.dcel.specs.Map.{Map, twin}
 use Rattle.dcel.specs.Mesh.{Sound}
 use Rattle.dcel.specs.EdgeSurgery.{LineEnd, extend_line_patch}
 use Rattle.dcel.specs.Geometry.{Geometric}
-use Rattle.dcel.proofs.Changes.{below_places}
+use Rattle.dcel.proofs.Changes.{elsewhere}
 use Rattle.dcel.proofs.Fits.{IsPatched}
 use Rattle.dcel.proofs.Neighbours.{new_pairs}
 use Rattle.dcel.proofs.Sites.{site, same_vertex, start, stop}
@@ -79,13 +79,13 @@ module _ (pos : ℕ → Point) (m n : Map) (S : Sound m) (N : Sound n) (G : Geom
 
   -- ---- the half edges of n: what was, and b p with its twin
   origin_same : (x : ℕ) → x < m.half_edges → n.origin x ≡ m.origin x
-  origin_same x h = D.origin_off x (below_places (extend_line_patch m e).origins m.half_edges x (omega arith) h)
+  origin_same x h = D.origin_off x (elsewhere (extend_line_patch m e).origins x (omega arith))
 
   abbrev Kind : ℕ → Type 0
   Kind x = (x < m.half_edges) ⊎ (x ≡ m.half_edges) ⊎ (x ≡ m.half_edges + 1)
 
   kind : (x : ℕ) → x < n.half_edges → Kind x
-  kind x l = elim (dec_lt x m.half_edges) [ yes o ↦ inl o | no o ↦ elim (ℕ_discrete x m.half_edges) [ yes q ↦ inr (inl q) | no q ↦ inr (inr (omega (arith, D.half_edges_is))) ] ]
+  kind x l = elim (cases_lt x m.half_edges) [ inl o ↦ inl o | inr o ↦ elim (cases_eq x m.half_edges) [ inl q ↦ inr (inl q) | inr q ↦ inr (inr (omega (arith, D.half_edges_is))) ] ]
 
   each_kind : (Q : ℕ → ℕ → ℕ → Type 0) → Q m.half_edges (m.origin (twin e)) m.vertices → Q (m.half_edges + 1) m.vertices (m.origin (twin e)) → ((x : ℕ) → x < m.half_edges → Q x (m.origin x) (m.origin (twin x))) →
       (x : ℕ) → x < n.half_edges → Q x (n.origin x) (n.origin (twin x))
@@ -168,9 +168,9 @@ module _ (pos : ℕ → Point) (m n : Map) (S : Sound m) (N : Sound n) (G : Geom
   ends = each_kind (λ z x y. n.next z ≡ twin z → (u : ℕ) → u < n.vertices → Between (s x) (s u) (s y) → ⊥)
       (λ _. beyond_p)
       (λ q. absurd (omega (arith, q ∙ (new_pairs m S).t1, D.next_at.1.1.0, in_twin)))
-      (λ x l q. elim (ℕ_discrete x e) [
-        | yes r ↦ absurd (omega (arith, sym (ap n.next r ∙ D.next_at.0) ∙ q, S.twin_in x l))
-        | no r ↦ (let t : m.next x ≡ twin x = sym (D.next_off x (λ k. elim k [ inl y ↦ r y | inr k ↦ elim k [ inl y ↦ omega arith | inr k ↦ elim k [ inl y ↦ omega arith | inr k ↦ k ] ] ])) ∙ q in
+      (λ x l q. elim (cases_eq x e) [
+        | inl r ↦ absurd (omega (arith, sym (ap n.next r ∙ D.next_at.0) ∙ q, S.twin_in x l))
+        | inr r ↦ (let t : m.next x ≡ twin x = sym (D.next_off x (elsewhere (extend_line_patch m e).links x (omega arith))) ∙ q in
             each (λ u. Between (s (m.origin x)) (s u) (s (m.origin (twin x))) → ⊥) (λ u k. not_strictly_between→ _ _ _ (G.ends few x l t u k)) (beyond_old x l r t))
       ])
 

@@ -1,6 +1,6 @@
 -- A new vertex p strictly between the ends of an edge e = ab of a line, whether e ends the line or not: the half edges that there are then, and that none has a vertex between its ends.
 use Rattle.std.proofs.Common.{◌≡◌, ℕ, ◌+◌, ◌<◌, ◌≤◌, ◌≢◌, ◌⊎◌, sym, ap, ◌∙◌, subst, inl, inr, arith}
-use native.Mathlib.Decide.{ℕ_discrete, dec_lt}
+use Rattle.std.proofs.lemmas.Bool.{cases_eq, cases_lt}
 use Rattle.exact.specs.Plane.{Point}
 use Rattle.exact.proofs.Geometry.Words.{InSegment, Site, On, Between}
 use Rattle.exact.proofs.Geometry.Betweenness.{between_swap, between_front, between_back}
@@ -9,7 +9,7 @@ use Rattle.exact.proofs.Geometry.LineOrder.{not_start, not_end, overlap}
 use Rattle.dcel.specs.Map.{Map, twin}
 use Rattle.dcel.specs.Mesh.{Sound}
 use Rattle.dcel.specs.Geometry.{Geometric}
-use Rattle.dcel.proofs.Twins.{twin_twin}
+use Rattle.dcel.proofs.Twins.{twin_twin, twin_apart}
 use Rattle.dcel.proofs.Neighbours.{new_pairs}
 use Rattle.dcel.proofs.Sites.{site, same_vertex, ends_apart}
 use Rattle.dcel.proofs.StrictlyBetween.{not_strictly_between→}
@@ -67,16 +67,16 @@ module _ (pos : ℕ → Point) (m n : Map) (S : Sound m) (N : Sound n) (G : Geom
     not_e = p;
     not_twin = q;
     from_is = K.others x l p q;
-    to_is = K.others (twin x) (S.twin_in x l) (λ r. q (sym (twin_twin x) ∙ ap twin r)) (λ r. p (sym (twin_twin x) ∙ ap twin r ∙ twin_twin e));
+    to_is = K.others (twin x) (S.twin_in x l) (λ r. q (sym (twin_twin x) ∙ ap twin r)) (twin_apart x e p);
   }
 
   abbrev pub Kind : ℕ → Type 0
   Kind x = (x ≡ e) ⊎ (x ≡ twin e) ⊎ (x ≡ m.half_edges) ⊎ (x ≡ m.half_edges + 1) ⊎ Other x
 
   pub kind : (x : ℕ) → x < n.half_edges → Kind x
-  kind x l = elim (dec_lt x m.half_edges) [
-    | yes o ↦ elim (ℕ_discrete x e) [ yes q ↦ inl q | no p ↦ elim (ℕ_discrete x (twin e)) [ yes q ↦ inr (inl q) | no q ↦ inr (inr (inr (inr (other x o p q)))) ] ]
-    | no o ↦ elim (ℕ_discrete x m.half_edges) [ yes q ↦ inr (inr (inl q)) | no p ↦ inr (inr (inr (inl (omega (arith, K.half_edges_is))))) ]
+  kind x l = elim (cases_lt x m.half_edges) [
+    | inl o ↦ elim (cases_eq x e) [ inl q ↦ inl q | inr p ↦ elim (cases_eq x (twin e)) [ inl q ↦ inr (inl q) | inr q ↦ inr (inr (inr (inr (other x o p q)))) ] ]
+    | inr o ↦ elim (cases_eq x m.half_edges) [ inl q ↦ inr (inr (inl q)) | inr p ↦ inr (inr (inr (inl (omega (arith, K.half_edges_is))))) ]
   ]
 
   -- what is said of the ends of each

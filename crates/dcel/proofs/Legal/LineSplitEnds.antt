@@ -1,6 +1,6 @@
 -- A new vertex p strictly between the ends of an edge e = ab of a line keeps the geometry: nothing is beyond the ends of the line, and no two vertices are joined twice.
 use Rattle.std.proofs.Common.{◌≡◌, ℕ, ◌+◌, ◌<◌, ◌≤◌, ◌⊎◌, sym, ap, ◌∙◌, subst, inl, inr, arith}
-use borrow.Author.Differences.{ints}
+use Rattle.std.proofs.lemmas.Int.{ints}
 use Rattle.exact.specs.Plane.{Point}
 use Rattle.exact.proofs.Geometry.Words.{Site, Between}
 use Rattle.exact.proofs.Geometry.Betweenness.{between_swap}

@@ -1,7 +1,8 @@
 -- The loop over a list of edges: with fuel of four times the volume and the length of the list it ends with nothing on the list and the map at rest.
 use Rattle.std.proofs.Common.{◌≡◌, ℕ, zero, suc, ◌+◌, ◌*◌, ◌<◌, ◌≤◌, Bool, true, false, not, ◌&&◌, eqb, ◌≢◌, List, [], ◌∷◌, length, refl, inl, inr, arith}
 use Rattle.exact.specs.Plane.{Point, pick}
-use Rattle.exact.proofs.Booleans.{and_left, and_right, not→, eqb→, eqb_false→}
+use Rattle.std.proofs.lemmas.Bool.{not-true, eqb-true, eqb-false}
+use Rattle.exact.proofs.Booleans.{and_left, and_right}
 use Rattle.exact.proofs.Lists.{In}
 use Rattle.dcel.specs.Map.{Map, twin}
 use Rattle.dcel.specs.Mesh.{Sound, Mesh}
@@ -20,8 +21,8 @@ illegal→ pos m e h t =
     let r = and_right left? (right? && wrong pos m e) t in
     record {
       in_e = h;
-      left = eqb_false→ (m.face e) 0 (not→ (eqb (m.face e) 0) (and_left left? (right? && wrong pos m e) t));
-      right = eqb_false→ (m.face (twin e)) 0 (not→ (eqb (m.face (twin e)) 0) (and_left right? (wrong pos m e) r));
+      left = eqb-false (m.face e) 0 (not-true (eqb (m.face e) 0) (and_left left? (right? && wrong pos m e) t));
+      right = eqb-false (m.face (twin e)) 0 (not-true (eqb (m.face (twin e)) 0) (and_left right? (wrong pos m e) r));
       wrong_e = and_right right? (wrong pos m e) r;
     }
 
@@ -30,8 +31,8 @@ unfolding illegal
 not_illegal→ pos m e t z z' = go (eqb (m.face e) 0) (eqb (m.face (twin e)) 0) (wrong pos m e) refl refl t
   where
     go : (p q r : Bool) → eqb (m.face e) 0 ≡ p → eqb (m.face (twin e)) 0 ≡ q → not p && (not q && r) ≡ false → r ≡ false
-    go true q r a b t = absurd (z (eqb→ (m.face e) 0 a))
-    go false true r a b t = absurd (z' (eqb→ (m.face (twin e)) 0 b))
+    go true q r a b t = absurd (z (eqb-true (m.face e) 0 a))
+    go false true r a b t = absurd (z' (eqb-true (m.face (twin e)) 0 b))
     go false false r a b t = t
 
 -- ---- what the loop keeps, and how it ends

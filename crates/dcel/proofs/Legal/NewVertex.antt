@@ -1,6 +1,6 @@
 -- A vertex more: it has the number that follows the last, and is where no other is.
-use Rattle.std.proofs.Common.{◌≡◌, ℕ, ◌+◌, ◌<◌, ◌≤◌, sym, subst, arith}
-use native.Mathlib.Decide.{dec_lt}
+use Rattle.std.proofs.Common.{◌≡◌, ℕ, ◌+◌, ◌<◌, ◌≤◌, sym, arith, inl, inr, below_more}
+use Rattle.std.proofs.lemmas.Bool.{cases_lt}
 use Rattle.exact.specs.Plane.{Point}
 use Rattle.exact.proofs.Geometry.Words.{Between}
 use Rattle.dcel.specs.Map.{Map}
@@ -13,15 +13,15 @@ Fresh pos m = (v : ℕ) → v < m.vertices → (pos v).x ≡ (pos m.vertices).x 
 
 -- the old vertices and the new one
 pub each_vertex : (P : ℕ → Type 0) (k n : ℕ) → n ≡ k + 1 → ((v : ℕ) → v < k → P v) → P k → (v : ℕ) → v < n → P v
-each_vertex P k n q old new v l = elim (dec_lt v k) [ yes o ↦ old v o | no o ↦ subst P (omega arith) new ]
+each_vertex P k n q old new = rw q (below_more P k old new)
 
 -- two numbers below, of which at most the last is new
 pub apart_with_one : (pos : ℕ → Point) (k n : ℕ) → n ≤ k + 1 →
     ((u v : ℕ) → u < k → v < k → (pos u).x ≡ (pos v).x → (pos u).y ≡ (pos v).y → u ≡ v) → ((u v : ℕ) → u < k → k ≤ v → v < n → (pos u).x ≡ (pos v).x → (pos u).y ≡ (pos v).y → ⊥) →
     (u v : ℕ) → u < n → v < n → (pos u).x ≡ (pos v).x → (pos u).y ≡ (pos v).y → u ≡ v
-apart_with_one pos k n one old new u v lu lv x y = elim (dec_lt u k) [
-  | yes a ↦ elim (dec_lt v k) [ yes b ↦ old u v a b x y | no b ↦ absurd (new u v a (omega arith) lv x y) ]
-  | no a ↦ elim (dec_lt v k) [ yes b ↦ absurd (new v u b (omega arith) lu (sym x) (sym y)) | no b ↦ omega arith ]
+apart_with_one pos k n one old new u v lu lv x y = elim (cases_lt u k) [
+  | inl a ↦ elim (cases_lt v k) [ inl b ↦ old u v a b x y | inr b ↦ absurd (new u v a (omega arith) lv x y) ]
+  | inr a ↦ elim (cases_lt v k) [ inl b ↦ absurd (new v u b (omega arith) lu (sym x) (sym y)) | inr b ↦ omega arith ]
 ]
 
 -- the new vertex is strictly between the ends of e

@@ -1,6 +1,6 @@
 -- The two steps of making a map legal, for edges listed in any way: an edge that is right is taken off, and a wrong one is flipped with the four sides of its faces put on.
 use Rattle.std.proofs.Common.{◌≡◌, ℕ, ◌<◌, false, ◌≢◌, ◌⊎◌, sym, refl, ap, ◌∙◌, subst, inl, inr}
-use native.Mathlib.Decide.{ℕ_discrete}
+use Rattle.std.proofs.lemmas.Bool.{cases_eq}
 use Rattle.exact.specs.Plane.{Point}
 use Rattle.dcel.specs.Map.{Map, twin}
 use Rattle.dcel.specs.Mesh.{Sound, Mesh}
@@ -9,7 +9,7 @@ use Rattle.dcel.specs.Geometry.{Geometric, wrong, AtRest}
 use Rattle.dcel.specs.Volume.{volume}
 use Rattle.dcel.specs.Legal.{EdgeListed, Ready, flip}
 use Rattle.dcel.proofs.Fits.{IsPatched, is_patched, Relinks, Fits}
-use Rattle.dcel.proofs.Twins.{twin_twin}
+use Rattle.dcel.proofs.Twins.{twin_twin, twin_apart}
 use Rattle.dcel.proofs.Surgeries.{Surgery, surgery_mesh}
 use Rattle.dcel.proofs.EdgeFlip.{flip_surgery}
 use Rattle.dcel.proofs.Legal.Corners.{wrong_twin}
@@ -29,9 +29,9 @@ AllBut Before e After = (x : ℕ) → x ≢ e → x ≢ twin e → Before x → 
 
 pub take_off : (pos : ℕ → Point) (m : Map) → ((v : ℕ) → (pos v).w ≡ 1) → (Before After : ℕ → Type 0) (e : ℕ) → AllBut Before e After → (m.face e ≢ 0 → m.face (twin e) ≢ 0 → wrong pos m e ≡ false) →
     Ready pos m Before → Ready pos m After
-take_off pos m whole Before After e less ok R x h z z' f = elim (ℕ_discrete x e) [
-  | yes q ↦ subst (λ y. wrong pos m y ≡ false) (sym q) (ok (λ r. z (ap m.face q ∙ r)) (λ r. z' (ap (λ y. m.face (twin y)) q ∙ r)))
-  | no p ↦ elim (ℕ_discrete x (twin e)) [ yes q ↦ at_twin q | no q ↦ R x h z z' (off p q) ]
+take_off pos m whole Before After e less ok R x h z z' f = elim (cases_eq x e) [
+  | inl q ↦ subst (λ y. wrong pos m y ≡ false) (sym q) (ok (λ r. z (ap m.face q ∙ r)) (λ r. z' (ap (λ y. m.face (twin y)) q ∙ r)))
+  | inr p ↦ elim (cases_eq x (twin e)) [ inl q ↦ at_twin q | inr q ↦ R x h z z' (off p q) ]
 ]
   where
     at_twin : x ≡ twin e → wrong pos m x ≡ false
@@ -41,7 +41,7 @@ take_off pos m whole Before After e less ok R x h z z' f = elim (ℕ_discrete x 
 
     off : x ≢ e → x ≢ twin e → EdgeListed Before x → ⊥
     off p q (inl k) = f (less x p q k)
-    off p q (inr k) = f (listed_twin After x (less (twin x) (λ r. q (sym (twin_twin x) ∙ ap twin r)) (λ r. p (sym (twin_twin x) ∙ ap twin r ∙ twin_twin e)) k))
+    off p q (inr k) = f (listed_twin After x (less (twin x) (λ r. q (sym (twin_twin x) ∙ ap twin r)) (twin_apart x e p) k))
 
 module _ (pos : ℕ → Point) (m : Map) (S : Sound m) (G : Geometric pos m) (e : ℕ) (bad : WrongEdge pos m e) where
   -- the four sides are listed
@@ -64,9 +64,9 @@ module _ (pos : ℕ → Point) (m : Map) (S : Sound m) (G : Geometric pos m) (e 
       on (inr k) = inr (inl k)
 
       more : (x : ℕ) → Before x → EdgeListed WithE x
-      more x k = elim (ℕ_discrete x e) [
-        | yes q ↦ inl (inr q)
-        | no p ↦ elim (ℕ_discrete x (twin e)) [ yes q ↦ inr (inr (ap twin q ∙ twin_twin e)) | no q ↦ on (less x p q k) ]
+      more x k = elim (cases_eq x e) [
+        | inl q ↦ inl (inr q)
+        | inr p ↦ elim (cases_eq x (twin e)) [ inl q ↦ inr (inr (ap twin q ∙ twin_twin e)) | inr q ↦ on (less x p q k) ]
       ]
 
       dropped : AllBut WithE e After

@@ -1,6 +1,6 @@
 -- An edge between two faces that is wrong can be flipped, and the flip keeps the geometry: e = ab between abc and bad becomes dc between dca and cdb.
-use Rattle.std.proofs.Common.{◌≡◌, ℕ, ◌<◌, true, false, ◌≢◌, sym, refl, ap, ◌∙◌, inl, inr, arith}
-use borrow.Author.Differences.{ints}
+use Rattle.std.proofs.Common.{◌≡◌, ℕ, ◌<◌, true, false, ◌≢◌, sym, refl, ap, ◌∙◌, arith}
+use Rattle.std.proofs.lemmas.Int.{ints}
 use Rattle.exact.specs.Plane.{Point, inside_circle}
 use Rattle.exact.proofs.Algebra.Signs.{Sign, ◌by◌, weak}
 use Rattle.exact.proofs.Geometry.Words.{Site, Orient, Incircle, Left}
@@ -11,6 +11,7 @@ use Rattle.dcel.specs.Map.{Map, twin}
 use Rattle.dcel.specs.Mesh.{Sound}
 use Rattle.dcel.specs.Surgery.{Flippable, flip_change, flip_patch}
 use Rattle.dcel.specs.Geometry.{Geometric, wrong}
+use Rattle.dcel.proofs.Changes.{elsewhere}
 use Rattle.dcel.proofs.Fits.{IsPatched, Relinks, Fits}
 use Rattle.dcel.proofs.Twins.{twin_twin}
 use Rattle.dcel.proofs.Neighbours.{InTriangle, in_triangle, two_faces}
@@ -71,7 +72,7 @@ module _ (pos : ℕ → Point) (m : Map) (S : Sound m) (G : Geometric pos m) (e 
   module _ (n : Map) (D : IsPatched m n (flip_patch m e)) (relinks : Relinks m (flip_patch m e)) (w : Fits m n (flip_patch m e)) where
     -- a half edge other than e and its twin begins where it did
     origin_same : (x : ℕ) → x ≢ e → x ≢ twin e → n.origin x ≡ m.origin x
-    origin_same x q r = D.origin_off x (λ k. elim k [ inl t ↦ q t | inr k ↦ elim k [ inl t ↦ r t | inr k ↦ k ] ])
+    origin_same x q r = D.origin_off x (elsewhere (flip_patch m e).origins x (q, (r, tt)))
 
     faces_differ : m.face (twin e) ≢ m.face e
     faces_differ = two_faces m S e bad.in_e bad.left

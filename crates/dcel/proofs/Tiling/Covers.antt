@@ -1,6 +1,6 @@
 -- Where there is a face, the faces cover the hull: a place strictly inside it is counted by some face, and any other is a little beside such a place.
-use Rattle.std.proofs.Common.{◌≡◌, ℕ, suc, ◌-◌, ◌<◌, ◌≤◌, true, false, sym, ◌∙◌, arith}
-use native.Mathlib.Decide.{ℕ_discrete, dec_lt}
+use Rattle.std.proofs.Common.{◌≡◌, ℕ, suc, ◌-◌, ◌<◌, ◌≤◌, true, false, sym, ◌∙◌, arith, inl, inr}
+use Rattle.std.proofs.lemmas.Bool.{cases_eq, cases_lt}
 use Rattle.exact.specs.Plane.{Point}
 use Rattle.exact.specs.Sums.{sum}
 use Rattle.exact.proofs.Sums.{sum_zero, only, only_same, only_other, sum_one}
@@ -30,12 +30,12 @@ module _ {pos : ℕ → Point} {m : Map} (S : Sound m) (G : Geometric pos m) (so
   -- no outer half edge goes to the right below a place strictly inside the hull
   none_forth : (p : Point) → InHull pos m true p → outer_forth pos m p ≡ 0
   unfolding fibre
-  none_forth p inner = sum_zero (λ e. only 0 (m.face e) (forth pos m p e)) m.half_edges (λ e h. elim (ℕ_discrete (m.face e) 0) [
-    | yes z ↦ only_same 0 (m.face e) (forth pos m p e) (sym z) ∙ elim (dec_lt 0 (forth pos m p e)) [
-      | yes c ↦ absurd (clash_below (orient (from pos m e) (to pos m e) p) (crossing→ (from pos m e) (to pos m e) p c).2 (inner e h z by sym (swap_place (stop G e) (start G e) p)))
-      | no n ↦ omega (arith, n)
+  none_forth p inner = sum_zero (λ e. only 0 (m.face e) (forth pos m p e)) m.half_edges (λ e h. elim (cases_eq (m.face e) 0) [
+    | inl z ↦ only_same 0 (m.face e) (forth pos m p e) (sym z) ∙ elim (cases_lt 0 (forth pos m p e)) [
+      | inl c ↦ absurd (clash_below (orient (from pos m e) (to pos m e) p) (crossing→ (from pos m e) (to pos m e) p c).2 (inner e h z by sym (swap_place (stop G e) (start G e) p)))
+      | inr n ↦ omega (arith, n)
     ]
-    | no f ↦ only_other 0 (m.face e) (forth pos m p e) (λ q. f (sym q))
+    | inr f ↦ only_other 0 (m.face e) (forth pos m p e) (λ q. f (sym q))
   ])
 
   covers_inner : (p : Point) → 1 ≤ p.w → InHull pos m true p → Covered pos m p

@@ -1,6 +1,6 @@
 -- A place strictly inside an edge is in no other closed face than the edge's two, so edges do not cross.
 use Rattle.std.proofs.Common.{◌≡◌, ℕ, ◌+◌, ◌<◌, ◌≤◌, true, false, ◌≢◌, ◌⊎◌, neg_ℤ, sym, ◌∙◌, subst, inl, inr, arith}
-use native.Mathlib.Decide.{ℕ_discrete}
+use Rattle.std.proofs.lemmas.Bool.{cases_eq}
 use Rattle.exact.specs.Plane.{Point}
 use Rattle.exact.proofs.Algebra.Signs.{Sign, ◌by◌, weak, split, zero_sign, clash_zero}
 use Rattle.exact.proofs.Geometry.Words.{W_sign, orient, InSegment, Site}
@@ -72,9 +72,9 @@ module _ {pos : ℕ → Point} {m : Map} (S : Sound m) (G : Geometric pos m) (p 
   pub only_two : (e : ℕ) → e < m.half_edges → m.face e ≢ 0 → InEdge pos m e p → (g : ℕ) → 0 < g → g < m.faces → InFace pos m false g p → (g ≡ m.face e) ⊎ (g ≡ m.face (twin e))
   only_two e h z i g lg hg j = elim (split (orient (from pos m e) (to pos m e) x)) [
     | inl s ↦ inl (here (weak s))
-    | inr s ↦ elim (ℕ_discrete (m.face (twin e)) 0) [
-      | yes y ↦ inl (here (outside y))
-      | no y ↦ inr (there y (other_side e x s))
+    | inr s ↦ elim (cases_eq (m.face (twin e)) 0) [
+      | inl y ↦ inl (here (outside y))
+      | inr y ↦ inr (there y (other_side e x s))
     ]
   ]
     where

@@ -1,7 +1,7 @@
 -- The triangle of a face starts at its smallest corner: `from_least` turns three numbers so, and the list of vertices has it as a triangle.
 use Rattle.std.proofs.Common.{◌≡◌, ℕ, ◌<◌, Bool, true, false, ◌&&◌, ltb, ◌≢◌, List, length, sym, refl, ◌∙◌, arith}
 use Rattle.exact.specs.Plane.{pick, Vertex, spot, Tri, tri}
-use Rattle.exact.proofs.Booleans.{ltb→, ltb_false→}
+use Rattle.std.proofs.lemmas.Bool.{ltb-true, ltb-false}
 use Rattle.exact.proofs.Vertices.{Rot, rot₁, rot₂, rot₃}
 use Rattle.exact.proofs.Algebra.Signs.{◌by◌}
 use Rattle.exact.proofs.Geometry.Faces.{Triangle, rot_orient}
@@ -26,13 +26,13 @@ least a b c ab bc ca = go (ltb a b) (ltb a c) (ltb b c) (ltb b a) refl refl refl
     last ca cb = record { turned = rot₂; least_two = ca; least_three = cb }
 
     go : (p q r s : Bool) → ltb a b ≡ p → ltb a c ≡ q → ltb b c ≡ r → ltb b a ≡ s → Least a b c (pick (p && q) (tri a b c) (pick (r && s) (tri b c a) (tri c a b)))
-    go true true r s e f g h = record { turned = rot₁; least_two = ltb→ a b e; least_three = ltb→ a c f }
-    go true false true true e f g h = record { turned = rot₃; least_two = ltb→ b c g; least_three = ltb→ b a h }
-    go true false true false e f g h = last (omega (arith, ltb_false→ a c f, ca)) (omega (arith, ltb→ a b e, ltb_false→ a c f))
-    go true false false s e f g h = last (omega (arith, ltb_false→ a c f, ca)) (omega (arith, ltb→ a b e, ltb_false→ a c f))
-    go false q true true e f g h = record { turned = rot₃; least_two = ltb→ b c g; least_three = ltb→ b a h }
-    go false q true false e f g h = absurd (omega (arith, ltb_false→ a b e, ltb_false→ b a h, ab))
-    go false q false s e f g h = last (omega (arith, ltb_false→ a b e, ltb_false→ b c g, ab, bc)) (omega (arith, ltb_false→ b c g, bc))
+    go true true r s e f g h = record { turned = rot₁; least_two = ltb-true a b e; least_three = ltb-true a c f }
+    go true false true true e f g h = record { turned = rot₃; least_two = ltb-true b c g; least_three = ltb-true b a h }
+    go true false true false e f g h = last (omega (arith, ltb-false a c f, ca)) (omega (arith, ltb-true a b e, ltb-false a c f))
+    go true false false s e f g h = last (omega (arith, ltb-false a c f, ca)) (omega (arith, ltb-true a b e, ltb-false a c f))
+    go false q true true e f g h = record { turned = rot₃; least_two = ltb-true b c g; least_three = ltb-true b a h }
+    go false q true false e f g h = absurd (omega (arith, ltb-false a b e, ltb-false b a h, ab))
+    go false q false s e f g h = last (omega (arith, ltb-false a b e, ltb-false b c g, ab, bc)) (omega (arith, ltb-false b c g, bc))
 
 pub face_least : {m : Map} → Sound m → (f : ℕ) → 0 < f → f < m.faces → Least (m.origin (m.edge f)) (m.origin (twin (m.edge f))) (m.origin (m.prev (m.edge f))) (face_tri m f)
 unfolding face_tri

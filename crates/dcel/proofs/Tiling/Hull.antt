@@ -1,6 +1,6 @@
 -- A mesh with a face and its hull: what is on the inner side of all outer half edges. There are outer half edges, none has an outer twin, and the middle of a face is strictly inside.
 use Rattle.std.proofs.Common.{◌≡◌, ℕ, suc, ◌-◌, ◌<◌, Bool, true, false, ◌≢◌, sym, inl, inr, arith}
-use borrow.Author.Differences.{ints}
+use Rattle.std.proofs.lemmas.Int.{ints}
 use Rattle.exact.specs.Plane.{Point, left_of}
 use Rattle.exact.proofs.Sums.{only, sum_one}
 use Rattle.exact.proofs.Algebra.Signs.{Sign, ◌by◌, split, is_zero, clash_zero}

@@ -1,10 +1,10 @@
 -- Some outer half edge comes back over a place strictly inside the hull. Otherwise those that begin right of the place would go round it for ever on that side, and then those that begin left of it.
 use Rattle.std.proofs.Common.{◌≡◌, ℕ, ◌<◌, ◌≤◌, Bool, true, false, ◌&&◌, eqb, ℤ, neg_ℤ, sym, ◌∙◌, inl, inr, arith}
-use native.Mathlib.Decide.{dec_lt}
-use lib.IntN.{neg_ℤ-neg_ℤ}
+use Rattle.std.proofs.Math.IntN.{neg_ℤ-neg_ℤ}
 use Rattle.exact.specs.Plane.{Point, right_of}
 use Rattle.exact.proofs.Sums.{only, only_same, sum_one}
-use Rattle.exact.proofs.Booleans.{and_left, and_right, and←, true_false, is_false, eqb→, eqb←}
+use Rattle.std.proofs.lemmas.Bool.{and_from, false_from_ne_true, eqb-true, eq-eqb, cases_lt}
+use Rattle.exact.proofs.Booleans.{and_left, and_right, true_false}
 use Rattle.exact.proofs.Orders.{no_ascent}
 use Rattle.exact.proofs.Algebra.Signs.{Sign, ◌by◌, weak, split_below, is_zero, strict_or_zero}
 use Rattle.exact.proofs.Algebra.IntegerTests.{above?, above?→, above?←, not_above?→}
@@ -33,7 +33,7 @@ module _ {pos : ℕ → Point} {m : Map} (S : Sound m) (G : Geometric pos m) (p 
     there e = eqb (m.face e) 0 && side (from pos m e)
 
     outer_there : (e : ℕ) → there e ≡ true → m.face e ≡ 0
-    outer_there e h = eqb→ (m.face e) 0 (and_left (eqb (m.face e) 0) (side (from pos m e)) h)
+    outer_there e h = eqb-true (m.face e) 0 (and_left (eqb (m.face e) 0) (side (from pos m e)) h)
 
     side_there : (e : ℕ) → there e ≡ true → side (from pos m e) ≡ true
     side_there e h = and_right (eqb (m.face e) 0) (side (from pos m e)) h
@@ -45,12 +45,12 @@ module _ {pos : ℕ → Point} {m : Map} (S : Sound m) (G : Geometric pos m) (p 
         m.half_edges m.next
         (λ e h t. (
           S.next_in e h,
-          and← (eqb (m.face (m.next e)) 0) (side (from pos m (m.next e))) (eqb← (m.face (m.next e)) 0 (S.face_next e h ∙ outer_there e t)) (stays e h (outer_there e t) (side_there e t)),
+          and_from (eqb (m.face (m.next e)) 0) (side (from pos m (m.next e))) (eq-eqb (m.face (m.next e)) 0 (S.face_next e h ∙ outer_there e t)) (stays e h (outer_there e t) (side_there e t)),
           right← (from pos m e) (from pos m (m.next e)) p (onward e h (outer_there e t)),
         ))
 
     none_begins : (e : ℕ) → e < m.half_edges → m.face e ≡ 0 → side (from pos m e) ≡ false
-    none_begins e h z = is_false (side (from pos m e)) (λ k. true_false (there e) (and← (eqb (m.face e) 0) (side (from pos m e)) (eqb← (m.face e) 0 z) k) (none_there e h))
+    none_begins e h z = false_from_ne_true (side (from pos m e)) (λ k. true_false (there e) (and_from (eqb (m.face e) 0) (side (from pos m e)) (eq-eqb (m.face e) 0 z) k) (none_there e h))
 
   module _ (stuck : (e : ℕ) → e < m.half_edges → m.face e ≡ 0 → back pos m p e ≡ 0) where
     stays_after : (e : ℕ) → e < m.half_edges → m.face e ≡ 0 → After (start G e) p → After (start G (m.next e)) p
@@ -88,7 +88,7 @@ module _ {pos : ℕ → Point} {m : Map} (S : Sound m) (G : Geometric pos m) (p 
 
   pub comes_back : (e : ℕ) → e < m.half_edges → m.face e ≡ 0 → 1 ≤ outer_back pos m p
   unfolding fibre
-  comes_back e h z = elim (dec_lt 0 (outer_back pos m p)) [
-    | yes l ↦ l
-    | no n ↦ absurd (not_stuck (λ d k y. omega (arith, n, sum_one (λ d. only 0 (m.face d) (back pos m p d)) m.half_edges d k, only_same 0 (m.face d) (back pos m p d) (sym y))) e h z)
+  comes_back e h z = elim (cases_lt 0 (outer_back pos m p)) [
+    | inl l ↦ l
+    | inr n ↦ absurd (not_stuck (λ d k y. omega (arith, n, sum_one (λ d. only 0 (m.face d) (back pos m p d)) m.half_edges d k, only_same 0 (m.face d) (back pos m p d) (sym y))) e h z)
   ]

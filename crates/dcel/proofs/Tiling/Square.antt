@@ -1,8 +1,8 @@
 -- A square cut in two, as a mesh: it is sound and its geometry is right, so what is proved of such meshes speaks of something. Each clause is a test of finitely many numbers.
 use Rattle.std.proofs.Common.{◌≡◌, ℕ, ◌<◌, Bool, true, false, not, eqb, ltb, ◌≢◌, List, [], ◌∷◌, get_or, refl, inl, inr, arith}
-use mathlib.Core.Bool.{false≢true}
 use Rattle.exact.specs.Plane.{or, every, each, up_to, all_apart, any, Point, left_of, Vertex, vertex, vertex_at, spot, tri, Tiles}
-use Rattle.exact.proofs.Booleans.{and←, not→, not←, or→, eqb→, eqb←, eqb_false→, eqb_false←, ltb→}
+use Rattle.std.proofs.lemmas.Bool.{and_from, not-true, not_from_false, eqb-true, eq-eqb, eqb-false, ne_eqb, ltb-true, false≢true}
+use Rattle.exact.proofs.Booleans.{or→}
 use Rattle.exact.proofs.Lists.{every→, up_to←}
 use Rattle.exact.proofs.Vertices.{spot_whole, same_number}
 use Rattle.dcel.specs.Map.{Map, twin}
@@ -27,8 +27,8 @@ then false b t e = absurd (false≢true e)
 
 among : (x a b c : ℕ) → or (eqb x a) (or (eqb x b) (eqb x c)) ≡ true → Among x a b c
 among x a b c t = elim (or→ (eqb x a) (or (eqb x b) (eqb x c)) t) [
-  | inl e ↦ inl (eqb→ x a e)
-  | inr r ↦ elim (or→ (eqb x b) (eqb x c) r) [ inl e ↦ inr (inl (eqb→ x b e)) | inr e ↦ inr (inr (eqb→ x c e)) ]
+  | inl e ↦ inl (eqb-true x a e)
+  | inr r ↦ elim (or→ (eqb x b) (eqb x c) r) [ inl e ↦ inr (inl (eqb-true x b e)) | inr e ↦ inr (inr (eqb-true x c e)) ]
 ]
 
 -- ---- the conditions: a face, or the outside
@@ -36,7 +36,7 @@ abbrev inner? : ℕ → Bool
 inner? f = not (eqb f 0)
 
 inner← : (f : ℕ) → f ≢ 0 → inner? f ≡ true
-inner← f z = not← (eqb f 0) (eqb_false← f 0 z)
+inner← f z = not_from_false (eqb f 0) (ne_eqb f 0 z)
 
 -- ---- the mesh: the corners 0, 1, 2, 3 in turn, cut from 2 to 0; the half edges in pairs 0 → 1, 1 → 2, 2 → 0, 2 → 3, 3 → 0
 abbrev table : List ℕ → ℕ → ℕ
@@ -64,22 +64,22 @@ own? e = or (eqb (square.edge (square.face e)) e) (or (eqb (square.edge (square.
 pub square_sound : Sound square
 unfolding every up_to twin
 square_sound = record {
-  twin_in = λ e h. ltb→ (twin e) 10 (all (λ e. ltb (twin e) 10) 10 refl e h);
-  next_in = λ e h. ltb→ (square.next e) 10 (all (λ e. ltb (square.next e) 10) 10 refl e h);
-  prev_in = λ e h. ltb→ (square.prev e) 10 (all (λ e. ltb (square.prev e) 10) 10 refl e h);
-  prev_next = λ e h. eqb→ (square.prev (square.next e)) (e) (all (λ e. eqb (square.prev (square.next e)) (e)) 10 refl e h);
-  next_prev = λ e h. eqb→ (square.next (square.prev e)) (e) (all (λ e. eqb (square.next (square.prev e)) (e)) 10 refl e h);
-  origin_in = λ e h. ltb→ (square.origin e) 4 (all (λ e. ltb (square.origin e) 4) 10 refl e h);
-  origin_next = λ e h. eqb→ (square.origin (square.next e)) (square.origin (twin e)) (all (λ e. eqb (square.origin (square.next e)) (square.origin (twin e))) 10 refl e h);
-  face_in = λ e h. ltb→ (square.face e) 3 (all (λ e. ltb (square.face e) 3) 10 refl e h);
-  face_next = λ e h. eqb→ (square.face (square.next e)) (square.face e) (all (λ e. eqb (square.face (square.next e)) (square.face e)) 10 refl e h);
-  three = λ e h z. eqb→ (square.next (square.next (square.next e))) e (then (inner? (square.face e)) (eqb (square.next (square.next (square.next e))) e) (all (λ e. if (inner? (square.face e)) (eqb (square.next (square.next (square.next e))) e)) 10 refl e h) (inner← (square.face e) z));
-  no_loop = λ e h. eqb_false→ (square.origin e) (square.origin (twin e)) (not→ (eqb (square.origin e) (square.origin (twin e))) (all (λ e. not (eqb (square.origin e) (square.origin (twin e)))) 10 refl e h));
-  edge_in = λ f l h. ltb→ (square.edge f) 10 (all (λ f. ltb (square.edge f) 10) 3 refl f h);
-  edge_face = λ f l h. eqb→ (square.face (square.edge f)) f (then (inner? f) (eqb (square.face (square.edge f)) f) (all (λ f. if (inner? f) (eqb (square.face (square.edge f)) f)) 3 refl f h) (inner← f (λ q. omega arith)));
+  twin_in = λ e h. ltb-true (twin e) 10 (all (λ e. ltb (twin e) 10) 10 refl e h);
+  next_in = λ e h. ltb-true (square.next e) 10 (all (λ e. ltb (square.next e) 10) 10 refl e h);
+  prev_in = λ e h. ltb-true (square.prev e) 10 (all (λ e. ltb (square.prev e) 10) 10 refl e h);
+  prev_next = λ e h. eqb-true (square.prev (square.next e)) (e) (all (λ e. eqb (square.prev (square.next e)) (e)) 10 refl e h);
+  next_prev = λ e h. eqb-true (square.next (square.prev e)) (e) (all (λ e. eqb (square.next (square.prev e)) (e)) 10 refl e h);
+  origin_in = λ e h. ltb-true (square.origin e) 4 (all (λ e. ltb (square.origin e) 4) 10 refl e h);
+  origin_next = λ e h. eqb-true (square.origin (square.next e)) (square.origin (twin e)) (all (λ e. eqb (square.origin (square.next e)) (square.origin (twin e))) 10 refl e h);
+  face_in = λ e h. ltb-true (square.face e) 3 (all (λ e. ltb (square.face e) 3) 10 refl e h);
+  face_next = λ e h. eqb-true (square.face (square.next e)) (square.face e) (all (λ e. eqb (square.face (square.next e)) (square.face e)) 10 refl e h);
+  three = λ e h z. eqb-true (square.next (square.next (square.next e))) e (then (inner? (square.face e)) (eqb (square.next (square.next (square.next e))) e) (all (λ e. if (inner? (square.face e)) (eqb (square.next (square.next (square.next e))) e)) 10 refl e h) (inner← (square.face e) z));
+  no_loop = λ e h. eqb-false (square.origin e) (square.origin (twin e)) (not-true (eqb (square.origin e) (square.origin (twin e))) (all (λ e. not (eqb (square.origin e) (square.origin (twin e)))) 10 refl e h));
+  edge_in = λ f l h. ltb-true (square.edge f) 10 (all (λ f. ltb (square.edge f) 10) 3 refl f h);
+  edge_face = λ f l h. eqb-true (square.face (square.edge f)) f (then (inner? f) (eqb (square.face (square.edge f)) f) (all (λ f. if (inner? f) (eqb (square.face (square.edge f)) f)) 3 refl f h) (inner← f (λ q. omega arith)));
   edge_of = λ e h z. among (square.edge (square.face e)) e (square.next e) (square.next (square.next e)) (then (inner? (square.face e)) (own? e) (all (λ e. if (inner? (square.face e)) (own? e)) 10 refl e h) (inner← (square.face e) z));
-  out_in = λ v h. ltb→ (square.out v) 10 (all (λ v. ltb (square.out v) 10) 4 refl v h);
-  out_origin = λ v h. eqb→ (square.origin (square.out v)) v (all (λ v. eqb (square.origin (square.out v)) v) 4 refl v h);
+  out_in = λ v h. ltb-true (square.out v) 10 (all (λ v. ltb (square.out v) 10) 4 refl v h);
+  out_origin = λ v h. eqb-true (square.origin (square.out v)) v (all (λ v. eqb (square.origin (square.out v)) v) 4 refl v h);
 }
 
 -- ---- its geometry
@@ -105,14 +105,14 @@ pub square_geometric : Geometric (spot corners) square
 unfolding every up_to twin vertex_at all_apart any
 square_geometric = record {
   left = λ e h z. then (inner? (square.face e)) (left? e) (all (λ e. if (inner? (square.face e)) (left? e)) 10 refl e h) (inner← (square.face e) z);
-  right = λ e h z v l. not→ (left_of (from at square e) (to at square e) (at v)) (then (outer? e) (right? e v) (all₂ (λ e v. if (outer? e) (right? e v)) 10 4 refl e v h l) (eqb← (square.face e) 0 z));
-  clear = λ e h z v l. not→ (strictly_between (from at square e) (to at square e) (at v)) (then (outer? e) (clear? e v) (all₂ (λ e v. if (outer? e) (clear? e v)) 10 4 refl e v h l) (eqb← (square.face e) 0 z));
-  once = λ s d e h l y z q. eqb→ d e (then (eqb (square.origin d) (square.origin e)) (eqb d e) (then (outer? e) (if (eqb (square.origin d) (square.origin e)) (eqb d e))
-      (then (outer? d) (once? d e) (all₂ (λ d e. if (outer? d) (once? d e)) 10 10 refl d e h l) (eqb← (square.face d) 0 y)) (eqb← (square.face e) 0 z)) (eqb← (square.origin d) (square.origin e) q));
+  right = λ e h z v l. not-true (left_of (from at square e) (to at square e) (at v)) (then (outer? e) (right? e v) (all₂ (λ e v. if (outer? e) (right? e v)) 10 4 refl e v h l) (eq-eqb (square.face e) 0 z));
+  clear = λ e h z v l. not-true (strictly_between (from at square e) (to at square e) (at v)) (then (outer? e) (clear? e v) (all₂ (λ e v. if (outer? e) (clear? e v)) 10 4 refl e v h l) (eq-eqb (square.face e) 0 z));
+  once = λ s d e h l y z q. eqb-true d e (then (eqb (square.origin d) (square.origin e)) (eqb d e) (then (outer? e) (if (eqb (square.origin d) (square.origin e)) (eqb d e))
+      (then (outer? d) (once? d e) (all₂ (λ d e. if (outer? d) (once? d e)) 10 10 refl d e h l) (eq-eqb (square.face d) 0 y)) (eq-eqb (square.face e) 0 z)) (eq-eqb (square.origin d) (square.origin e) q));
   ends = λ s. absurd (omega arith);
   single = λ s. absurd (omega arith);
   whole = spot_whole corners refl;
-  apart = λ u v h l p q. same_number corners refl u v h l (and← (eqb (at u).x (at v).x) (eqb (at u).y (at v).y) (eqb← (at u).x (at v).x p) (eqb← (at u).y (at v).y q));
+  apart = λ u v h l p q. same_number corners refl u v h l (and_from (eqb (at u).x (at v).x) (eqb (at u).y (at v).y) (eq-eqb (at u).x (at v).x p) (eq-eqb (at u).y (at v).y q));
 }
 
 -- so its two triangles tile it

@@ -1,8 +1,8 @@
 -- Wherever the point is, if not on a vertex: after it is put in, what may be wrong is on the list.
-use Rattle.std.proofs.Common.{◌≡◌, ℕ, ◌<◌, ◌≤◌, true, eqb, List, refl, ap, ◌∙◌, arith}
-use native.Mathlib.Decide.{dec_lt}
+use Rattle.std.proofs.Common.{◌≡◌, ℕ, ◌<◌, ◌≤◌, true, eqb, List, refl, ap, ◌∙◌, arith, inl, inr}
 use Rattle.exact.specs.Plane.{point}
-use Rattle.exact.proofs.Booleans.{eqb→, eqb_false→, true_false}
+use Rattle.std.proofs.lemmas.Bool.{eqb-true, eqb-false, cases_lt}
+use Rattle.exact.proofs.Booleans.{true_false}
 use Rattle.exact.proofs.Geometry.Words.{Site}
 use Rattle.exact.proofs.Geometry.Betweenness.{between_swap}
 use Rattle.dcel.specs.Layout.{Size}
@@ -39,7 +39,7 @@ module _ (s : Size) (m : List ℕ) (S : Settled s m) (room : vertices_in s m < s
 
   -- with the outside on both sides there is no face
   no_face : (e : ℕ) → e < g.half_edges → g.face e ≡ 0 → g.face (twin e) ≡ 0 → g.faces ≤ 1
-  no_face e h z z' = elim (dec_lt 1 g.faces) [ yes f ↦ absurd (two_sides S.held.holds.mesh.sound S.held.geometric f e h z z') | no f ↦ omega arith ]
+  no_face e h z z' = elim (cases_lt 1 g.faces) [ inl f ↦ absurd (two_sides S.held.holds.mesh.sound S.held.geometric f e h z z') | inr f ↦ omega arith ]
 
   pub put_on_edge_unsettled : (e : ℕ) → RightPlace s m (point x y) (on_edge e) → Put s m x y d (put_on_edge s m e x y d)
   unfolding put_on_edge
@@ -47,11 +47,11 @@ module _ (s : Size) (m : List ℕ) (S : Settled s m) (room : vertices_in s m < s
       let t = twin e in
       picked (Put s m x y d) (eqb (g.face e) 0) _ _
       (λ a. picked (Put s m x y d) (eqb (g.face t) 0) _ _
-      (λ b. put_on_line_unsettled s m S room x y d hx hy (no_face e w.0 (eqb→ (g.face e) 0 a) (eqb→ (g.face t) 0 b)) e w)
-      (λ b. put_on_hull_unsettled s m S room x y d hx hy t (other_half s m S.held.holds.mesh.sound x y e w) (eqb_false→ (g.face t) 0 b) (ap g.face (twin_twin e) ∙ eqb→ (g.face e) 0 a)))
+      (λ b. put_on_line_unsettled s m S room x y d hx hy (no_face e w.0 (eqb-true (g.face e) 0 a) (eqb-true (g.face t) 0 b)) e w)
+      (λ b. put_on_hull_unsettled s m S room x y d hx hy t (other_half s m S.held.holds.mesh.sound x y e w) (eqb-false (g.face t) 0 b) (ap g.face (twin_twin e) ∙ eqb-true (g.face e) 0 a)))
       (λ a. picked (Put s m x y d) (eqb (g.face t) 0) _ _
-      (λ b. put_on_hull_unsettled s m S room x y d hx hy e w (eqb_false→ (g.face e) 0 a) (eqb→ (g.face t) 0 b))
-      (λ b. put_between_unsettled s m S room x y d hx hy e w (eqb_false→ (g.face e) 0 a) (eqb_false→ (g.face t) 0 b)))
+      (λ b. put_on_hull_unsettled s m S room x y d hx hy e w (eqb-false (g.face e) 0 a) (eqb-true (g.face t) 0 b))
+      (λ b. put_between_unsettled s m S room x y d hx hy e w (eqb-false (g.face e) 0 a) (eqb-false (g.face t) 0 b)))
 
   pub put_unsettled : (w : Where) → RightPlace s m (point x y) w → new_at w ≡ true → Put s m x y d (put_at s m w x y d)
   put_unsettled (on_vertex v) h k = absurd (true_false _ k refl)

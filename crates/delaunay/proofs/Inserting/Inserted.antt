@@ -1,8 +1,8 @@
 -- A point inserted: its number, and memory that stands. At a vertex only its data change; elsewhere there is a vertex more, if there is room.
 use Rattle.std.proofs.Common.{◌≡◌, ℕ, ◌<◌, Bool, true, false, ◌&&◌, leb, ◌⊎◌, List, Some, None, sym, refl, ap, ◌∙◌, subst, inl, inr, arith}
-use Rattle.std.proofs.lemmas.Bool.{eq-eqb, ne_eqb}
+use Rattle.std.proofs.lemmas.Bool.{eq-eqb, ne_eqb, le-leb, lt-leb, false_from_ne_true}
 use Rattle.exact.specs.Plane.{pick, Point, point, same_spot}
-use Rattle.exact.proofs.Booleans.{leb←, leb_false←, true_false, is_false}
+use Rattle.exact.proofs.Booleans.{true_false}
 use Rattle.exact.proofs.Geometry.Words.{Site, Same}
 use Rattle.exact.proofs.Geometry.Spots.{same_of, same_at, same_spot→, same_spot←}
 use Rattle.dcel.specs.Layout.{Size, header}
@@ -92,7 +92,7 @@ module _ (s : Size) (m : List ℕ) (x y : ℕ) where
       put_new (inl (B, L)) N room = subst (λ (v : Where). Added s m x y d (put_and_settled s m v x y d)) (sym (located_alone B.half_edges_are ∙ none_alone B.vertices_are)) (put_lone (inl (B, L)) B.half_edges_are N.none)
       put_new (inr (inl (B, L))) N room =
           let z = B.half_edges_are in
-          let far : same_spot (place_of s m 0) p ≡ false = is_false _ (λ t. N.none 0 (omega (arith, B.vertices_are)) (same_at first here (same_spot→ first here t))) in
+          let far : same_spot (place_of s m 0) p ≡ false = false_from_ne_true _ (λ t. N.none 0 (omega (arith, B.vertices_are)) (same_at first here (same_spot→ first here t))) in
           let q : w ≡ no_edge = located_alone z ∙ one_alone B.vertices_are ∙ ap (λ (b : Bool). pick b (on_vertex 0) no_edge) far in
           subst (λ (v : Where). Added s m x y d (put_and_settled s m v x y d)) (sym q) (put_lone (inr (inl (B, L))) z N.none)
       put_new (inr (inr T)) N room = put_told T room w (located_right s m T x y) N.new N.number
@@ -122,13 +122,13 @@ module _ (s : Size) (m : List ℕ) (x y : ℕ) where
       elsewhere : 1 < s.vertices → x < s.coordinates → y < s.coordinates → vertices_in s m < s.vertices → (inserted_number s m x y ≡ Some (vertices_in s m)) × ((d : ℕ) → Added s m x y d (inserted s m x y d))
       unfolding inserted_number inserted
       elsewhere more hx hy room =
-          let f = full false (leb_false← s.vertices (vertices_in s m) room) in
+          let f = full false (lt-leb s.vertices (vertices_in s m) room) in
           (ap (λ (b : Bool). pick b None (Some (number_at s m w))) f ∙ ap Some at_none.number, λ d. subst (λ (b : Bool). Added s m x y d (pick b m (put_and_settled s m w x y d))) (sym f) (put_new d more hx hy S at_none room))
 
       no_room : vertices_in s m ≡ s.vertices → (inserted_number s m x y ≡ None) × ((d : ℕ) → inserted s m x y d ≡ m)
       unfolding inserted_number inserted
       no_room q =
-          let f = full true (leb← s.vertices (vertices_in s m) (omega arith)) in
+          let f = full true (le-leb s.vertices (vertices_in s m) (omega arith)) in
           (ap (λ (b : Bool). pick b None (Some (number_at s m w))) f, λ d. ap (λ (b : Bool). pick b m (put_and_settled s m w x y d)) f)
 
 pub record InsertionLaw (s : Size) (m : List ℕ) (x y : ℕ) : Type 0 where

@@ -1,7 +1,7 @@
 -- A vertex on a line of vertices, between two or past the end: no face comes to be, so no edge can be wrong.
 use Rattle.std.proofs.Common.{◌≡◌, ℕ, ◌+◌, ◌%◌, ◌<◌, ◌≤◌, eqb, ◌≢◌, List, [], refl, arith}
 use Rattle.exact.specs.Plane.{Point, point}
-use Rattle.exact.proofs.Booleans.{eqb→, eqb_false→}
+use Rattle.std.proofs.lemmas.Bool.{eqb-true, eqb-false}
 use Rattle.dcel.specs.Layout.{Size}
 use Rattle.dcel.specs.Map.{Map, twin}
 use Rattle.dcel.specs.Mesh.{Mesh}
@@ -61,7 +61,7 @@ module _ (s : Size) (m : List ℕ) (S : Settled s m) (room : vertices_in s m < s
 
     pub put_on_line_unsettled : Put s m x y d (put_on_line s m e x y d)
     unfolding put_on_line
-    put_on_line_unsettled = picked (Put s m x y d) (eqb (g.next e) (twin e)) _ _ (λ t. at_end (eqb→ (g.next e) (twin e) t)) (λ f. before_end (eqb_false→ (g.next e) (twin e) f))
+    put_on_line_unsettled = picked (Put s m x y d) (eqb (g.next e) (twin e)) _ _ (λ t. at_end (eqb-true (g.next e) (twin e) t)) (λ f. before_end (eqb-false (g.next e) (twin e) f))
 
   pub put_beyond_unsettled : RightPlace s m (point x y) (beyond e) → Put s m x y d (apply_with s extend_line_change m e x y d)
   put_beyond_unsettled w =

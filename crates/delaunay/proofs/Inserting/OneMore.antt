@@ -1,15 +1,15 @@
 -- A vertex more: the places with it, and the old mesh there. The others are where they were, so what held of the mesh holds still, and a place told right is so of the new vertex.
-use Rattle.std.proofs.Common.{◌≡◌, ℕ, ◌+◌, ◌%◌, ◌<◌, true, List, [], ◌∷◌, refl, ◌∙◌, inl, inr, mod-eq_of_lt, arith}
+use Rattle.std.proofs.Common.{◌≡◌, ℕ, ◌+◌, ◌%◌, ◌<◌, true, List, [], ◌∷◌, refl, ◌∙◌, mod-eq_of_lt, arith}
 use Rattle.exact.specs.Plane.{Point, point, left_of}
 use Rattle.exact.proofs.Geometry.Tests.{left→}
 use Rattle.dcel.specs.Layout.{Size, header}
-use Rattle.dcel.specs.Pairs.{Source, changed}
+use Rattle.dcel.specs.Pairs.{changed}
 use Rattle.dcel.specs.Map.{Map, twin}
 use Rattle.dcel.specs.Mesh.{Sound}
 use Rattle.dcel.specs.Memory.{cell, map_of, x_in, y_in, vertices_in}
 use Rattle.dcel.specs.Holds.{sites_of, with_site}
 use Rattle.dcel.specs.Geometry.{strictly_between, Geometric, AtRest}
-use Rattle.dcel.proofs.Changes.{changed_off, changed_at}
+use Rattle.dcel.proofs.Changes.{changed_off, changed_at, elsewhere}
 use Rattle.dcel.proofs.StrictlyBetween.{strictly_between→}
 use Rattle.dcel.proofs.Sites.{stop_in, third_in}
 use Rattle.dcel.proofs.Legal.NewVertex.{OnEdge}
@@ -53,12 +53,8 @@ module _ (s : Size) (m : List ℕ) (x y : ℕ) where
   pub place_new : places_with s m x y (vertices_in s m) ≡ point x y
   place_new = λ i. point ((changed_at ((v, x) ∷ []) (x_in s m) (tt, tt)).0 i) ((changed_at ((v, y) ∷ []) (y_in s m) (tt, tt)).0 i)
 
-  not_last : (u k : ℕ) → u < v → Source u ((v, k) ∷ []) → ⊥
-  not_last u k h (inl e) = omega arith
-  not_last u k h (inr e) = e
-
   pub place_old : (u : ℕ) → u < vertices_in s m → places_with s m x y u ≡ place_of s m u
-  place_old u h = λ i. point (changed_off ((v, x) ∷ []) (x_in s m) u (not_last u x h) i) (changed_off ((v, y) ∷ []) (y_in s m) u (not_last u y h) i)
+  place_old u h = λ i. point (changed_off ((v, x) ∷ []) (x_in s m) u (elsewhere ((v, x) ∷ []) u (omega arith)) i) (changed_off ((v, y) ∷ []) (y_in s m) u (elsewhere ((v, y) ∷ []) u (omega arith)) i)
 
   -- ---- the old mesh
   module _ (H : Held s m) where

@@ -1,7 +1,7 @@
 -- A word that no mesh reads is written: the data of a vertex, or the half edge from which the next walk starts. The mesh, its places and the list stay.
-use Rattle.std.proofs.Common.{◌≡◌, ℕ, ◌*◌, ◌%◌, ◌<◌, ◌≤◌, Bool, cond, ◌≢◌, List, [], ◌∷◌, length, sym, refl, ap, ◌∙◌, subst, arith}
-use mathlib.Core.Path.{fun_ext}
-use Rattle.std.proofs.lemmas.Bool.{ne_eqb}
+use Rattle.std.proofs.Common.{◌≡◌, ℕ, ◌*◌, ◌%◌, ◌<◌, ◌≤◌, ◌≢◌, List, [], ◌∷◌, length, sym, refl, ap, ◌∙◌, subst, arith, eqb}
+use Rattle.std.proofs.Math.Path.{fun_ext}
+use Rattle.std.proofs.lemmas.Bool.{ne_eqb, cond-false}
 use Rattle.exact.specs.Plane.{Point, point}
 use Rattle.dcel.specs.Layout.{Size, header, vertex_x, vertex_y, vertex_data, vertex_out, edge_next, edge_prev, edge_face, edge_origin, face_edge, worklist, total}
 use Rattle.dcel.specs.Pairs.{changed}
@@ -93,7 +93,7 @@ module _ (s : Size) (m : List ℕ) (z : total s ≤ length m) (e : ℕ) where
   last_is = cell_same s header m last_edge e last_edge z (omega arith)
 
   pub last_header : (i : ℕ) → i ≢ last_edge → cell s header (put s header m last_edge e) i ≡ cell s header m i
-  last_header i h = cell_same s header m last_edge e i z (omega arith) ∙ ap (λ (b : Bool). cond b e (cell s header m i)) (ne_eqb i last_edge h)
+  last_header i h = cell_same s header m last_edge e i z (omega arith) ∙ cond-false (eqb i last_edge) _ _ (ne_eqb i last_edge h)
 
   pub last_sites : sites_of s (put s header m last_edge e) ≡ sites_of s m
   last_sites = λ i. record {

@@ -19,7 +19,7 @@ use Rattle.dcel.proofs.Horizon.Steps.{attach}
 use Rattle.dcel.proofs.Horizon.Fuel.{to_close, attach_to_close}
 use Rattle.dcel.proofs.Horizon.Worklist.{Listed, attach_listed}
 use Rattle.delaunay.specs.Worklist.{pushed_face}
-use Rattle.delaunay.specs.Outside.{ear_fuel, all_ahead, all_behind, put_outside}
+use Rattle.delaunay.specs.Outside.{ear_fuel, ears_closed, put_outside}
 use Rattle.delaunay.specs.Where.{outside}
 use Rattle.delaunay.specs.Kept.{AmongListed, HalfListed, Settled, RightPlace}
 use Rattle.delaunay.proofs.Settling.Beside.{beside_map, beside_vertices}
@@ -104,7 +104,7 @@ module _ (s : Size) (m : List ℕ) (S : Settled s m) (room : vertices_in s m < s
   enough = omega (arith, ap to_close map_now, attach_to_close g M e may, at_most_below (6 * s.vertices) (cell s header m 1))
 
   pub put_outside_unsettled : Put s m x y d (put_outside s m e x y d)
-  unfolding put_outside all_ahead all_behind ear_fuel
+  unfolding put_outside ears_closed ear_fuel
   put_outside_unsettled =
       let some : 0 < g.faces = omega (arith, M.sound.face_in e w.0) in
       let R = ahead s m x y d B some (6 * s.vertices) (6 * s.vertices) n (half_edges_in s m + 3) (half_edges_in s m + 1) attached_open enough enough in

@@ -2,7 +2,7 @@
 use Rattle.std.proofs.Common.{◌≡◌, ℕ, ◌*◌, ◌<◌, ◌≤◌, false, eqb, ◌≢◌, List, Some, None, arith}
 use Rattle.exact.specs.Plane.{Point, point}
 use Rattle.exact.specs.Distance.{squared}
-use Rattle.exact.proofs.Booleans.{eqb←, eqb_false←}
+use Rattle.std.proofs.lemmas.Bool.{eq-eqb, ne_eqb}
 use Rattle.exact.proofs.Geometry.Squared.{squared_bound}
 use Rattle.dcel.specs.Layout.{Size}
 use Rattle.dcel.specs.Map.{twin}
@@ -39,7 +39,7 @@ module _ (s : Size) (m : List ℕ) (T : Triangulated s m) (x y : ℕ) (hx : x < 
 -- ---- with half edges, and without
 module _ (s : Size) (m : List ℕ) (p : Point) where
   found : half_edges_in s m ≢ 0 → eqb (half_edges_in s m) 0 ≡ false
-  found n = eqb_false← (half_edges_in s m) 0 n
+  found n = ne_eqb (half_edges_in s m) 0 n
 
   pub nearest_number_is : half_edges_in s m ≢ 0 → nearest_number s m p ≡ Some ((map_of s m).origin (nearest_edge s m p))
   unfolding nearest_number
@@ -51,12 +51,12 @@ module _ (s : Size) (m : List ℕ) (p : Point) where
 
   pub nearest_left_alone : half_edges_in s m ≡ 0 → nearest_left s m p ≡ m
   unfolding nearest_left
-  nearest_left_alone z = rw (eqb← (half_edges_in s m) 0 z)
+  nearest_left_alone z = rw (eq-eqb (half_edges_in s m) 0 z)
 
   pub nearest_number_none : half_edges_in s m ≡ 0 → vertices_in s m ≡ 0 → nearest_number s m p ≡ None
   unfolding nearest_number
-  nearest_number_none z v = rw (eqb← (half_edges_in s m) 0 z, eqb← (vertices_in s m) 0 v)
+  nearest_number_none z v = rw (eq-eqb (half_edges_in s m) 0 z, eq-eqb (vertices_in s m) 0 v)
 
   pub nearest_number_alone : half_edges_in s m ≡ 0 → vertices_in s m ≢ 0 → nearest_number s m p ≡ Some 0
   unfolding nearest_number
-  nearest_number_alone z v = rw (eqb← (half_edges_in s m) 0 z, eqb_false← (vertices_in s m) 0 v)
+  nearest_number_alone z v = rw (eq-eqb (half_edges_in s m) 0 z, ne_eqb (vertices_in s m) 0 v)

@@ -2,7 +2,7 @@
 use Rattle.std.proofs.Common.{◌≡◌, ℕ, suc, ◌+◌, ◌-◌, ◌*◌, ◌<◌, ◌≤◌, Bool, true, false, eqb, ltb, ◌⊎◌, List, [], ◌∷◌, length, Some, None, sym, refl, ap, ◌∙◌, subst, inl, inr, mul-le-mul, arith}
 use Rattle.exact.specs.Plane.{pick, Point}
 use Rattle.exact.specs.Distance.{squared}
-use Rattle.exact.proofs.Booleans.{either, ltb→, ltb_false→, eqb→, eqb_false→}
+use Rattle.std.proofs.lemmas.Bool.{cases_Bool, ltb-true, ltb-false, eqb-true, eqb-false}
 use Rattle.exact.proofs.Lists.{In}
 use Rattle.dcel.specs.Layout.{Size, header}
 use Rattle.dcel.specs.Map.{Map, twin}
@@ -49,7 +49,7 @@ module _ (s : Size) (m : List ℕ) (S : Sound (map_of s m)) (R : Round (map_of s
 
   -- nor is the end of this one
   none_nearer : (k : ℕ) (l : Look) (L : Looking k l) → ltb (far_from s m p (twin l.edge)) l.far ≡ false → (g : ℕ) → In g (l.edge ∷ L.before) → l.far ≤ far_from s m p (twin g)
-  none_nearer k l L x g (inl q) = subst (λ (j : ℕ). l.far ≤ far_from s m p (twin j)) (sym q) (ltb_false→ (far_from s m p (twin l.edge)) l.far x)
+  none_nearer k l L x g (inl q) = subst (λ (j : ℕ). l.far ≤ far_from s m p (twin j)) (sym q) (ltb-false (far_from s m p (twin l.edge)) l.far x)
   none_nearer k l L x g (inr i) = L.not_nearer g i
 
   turned_on : (k : ℕ) (l : Look) → Looking k l → (looked s m p l ≡ None) ⊎ Goes (looked s m p) Looking k l
@@ -59,19 +59,19 @@ module _ (s : Size) (m : List ℕ) (S : Sound (map_of s m)) (R : Round (map_of s
       let d = far_from s m p (twin e) in
       let n = turn M e in
       let here : e < half_edges_in s m = turned_in M S l.since L.first L.before e L.turned e (inl refl) in
-      elim (either (ltb d l.far)) [
+      elim (cases_Bool (ltb d l.far)) [
         | inl x ↦
             inr (record {
               turns = left_after (half_edges_in s m) d 1;
               to = look (twin e) (twin e) d;
-              fewer = subst (λ (j : ℕ). left_after (half_edges_in s m) d 1 < j) L.left (nearer_fewer (half_edges_in s m) d l.far (suc (length L.before)) (ltb→ d l.far x));
+              fewer = subst (λ (j : ℕ). left_after (half_edges_in s m) d 1 < j) L.left (nearer_fewer (half_edges_in s m) d l.far (suc (length L.before)) (ltb-true d l.far x));
               on = rw x;
               kept = begun (twin e) (S.twin_in e here);
             })
-        | inr x ↦ elim (either (eqb n l.since)) [
+        | inr x ↦ elim (cases_Bool (eqb n l.since)) [
           | inl y ↦ inl (rw (x, y))
           | inr y ↦
-              let more : Turned M l.since n (e ∷ L.before) = (refl, eqb_false→ n l.since y, L.turned) in
+              let more : Turned M l.since n (e ∷ L.before) = (refl, eqb-false n l.since y, L.turned) in
               inr (record {
                 turns = left_after (half_edges_in s m) l.far (suc (suc (length L.before)));
                 to = look n l.since l.far;
@@ -100,7 +100,7 @@ module _ (s : Size) (m : List ℕ) (S : Sound (map_of s m)) (R : Round (map_of s
 
     no_neighbour : (g : ℕ) → g < half_edges_in s m → M.origin g ≡ M.origin l.edge → far_from s m p l.edge ≤ far_from s m p (twin g)
     no_neighbour g h q =
-        let again = eqb→ (turn M l.edge) l.since ended.1 in
+        let again = eqb-true (turn M l.edge) l.since ended.1 in
         omega (arith, far_there, none_nearer k l L ended.0 g (all_turned M S l.since L.first L.before l.edge L.turned again R g h (q ∙ start_is)))
 
   -- ---- the whole search, from any half edge

@@ -1,7 +1,7 @@
 -- Where a place is, told right across faces: the walk comes to an outer half edge that has it strictly on its left, or to a closed face that has it.
 use Rattle.std.proofs.Common.{◌≡◌, ℕ, ◌<◌, Bool, true, false, eqb, ◌≢◌, ◌⊎◌, List, Some, None, Option, sym, refl, ◌∙◌, inl, inr, arith}
 use Rattle.exact.specs.Plane.{pick}
-use Rattle.exact.proofs.Booleans.{either, eqb→, eqb_false→}
+use Rattle.std.proofs.lemmas.Bool.{cases_Bool, eqb-true, eqb-false}
 use Rattle.exact.proofs.Algebra.Signs.{◌by◌, weak}
 use Rattle.exact.proofs.Geometry.Words.{Site, Left, LeftOn, Right, W_site}
 use Rattle.exact.proofs.Geometry.Tests.{left←}
@@ -78,9 +78,9 @@ module _ (s : Size) (m : List ℕ) (S : Sound (map_of s m)) (G : Geometric (plac
       let n = cell s edge_next m e in
       let q = cell s edge_prev m e in
       picked (RightPlace s m p.at) (eqb (cell s edge_face m e) 0) _ _
-      (λ o. let z = eqb→ (M.face e) 0 o in (f.below, z, left← (start G e).at (stop G e).at p.at (f.outer_left z)))
+      (λ o. let z = eqb-true (M.face e) 0 o in (f.below, z, left← (start G e).at (stop G e).at p.at (f.outer_left z)))
       (λ o. let r = none_left (eqb (cell s edge_face m e) 0) (right_at s m n p.at) (right_at s m q p.at) (twin n) (twin q) still o in
-      in_face_right s m S G p e f.below (eqb_false→ (M.face e) 0 o) f.not_right (not_right_at→ s m n p.at r.0) (not_right_at→ s m q p.at r.1))
+      in_face_right s m S G p e f.below (eqb-false (M.face e) 0 o) f.not_right (not_right_at→ s m n p.at r.0) (not_right_at→ s m q p.at r.1))
 
   module _ (some : 1 < M.faces) (rest : AtRest (place_of s m) M) where
     -- over an exit the turns left become fewer
@@ -105,15 +105,15 @@ module _ (s : Size) (m : List ℕ) (S : Sound (map_of s m)) (G : Geometric (plac
         let outer? = eqb (cell s edge_face m e) 0 in
         let n? = right_at s m n p.at in
         let q? = right_at s m q p.at in
-        elim (either outer?) [
+        elim (cases_Bool outer?) [
           | inl o ↦ inl (rw o)
           | inr o ↦
-              let z = eqb_false→ (M.face e) 0 o in
-              elim (either n?) [
+              let z = eqb-false (M.face e) 0 o in
+              elim (cases_Bool n?) [
                 | inl a ↦
                     let x : Exit e n = (z, inl refl, right_at→ s m n p.at a) in
                     inr (record { turns = left_after n; to = twin n; fewer = t.1 n x; on = rw (o, a); kept = cross e n t.0.below x })
-                | inr a ↦ elim (either q?) [
+                | inr a ↦ elim (cases_Bool q?) [
                   | inl b ↦
                       let x : Exit e q = (z, inr refl, right_at→ s m q p.at b) in
                       inr (record { turns = left_after q; to = twin q; fewer = t.1 q x; on = rw (o, a, b); kept = cross e q t.0.below x })
@@ -134,7 +134,7 @@ module _ (s : Size) (m : List ℕ) (S : Sound (map_of s m)) (G : Geometric (plac
     -- ---- from any half edge
     inner_first : (e : ℕ) → e < M.half_edges → Inner M (inner_half s m e)
     unfolding inner_half
-    inner_first e h = picked (Inner M) (eqb (cell s edge_face m e) 0) (twin e) e (λ o. (S.twin_in e h, two_sides S G some e h (eqb→ (M.face e) 0 o))) (λ o. (h, eqb_false→ (M.face e) 0 o))
+    inner_first e h = picked (Inner M) (eqb (cell s edge_face m e) 0) (twin e) e (λ o. (S.twin_in e h, two_sides S G some e h (eqb-true (M.face e) 0 o))) (λ o. (h, eqb-false (M.face e) 0 o))
 
     faces_it : (e : ℕ) → Inner M e → Facing (facing s m p.at e)
     unfolding facing

@@ -1,6 +1,6 @@
 -- A place at a vertex is told to be there: it is strictly between the ends of no edge, strictly inside no face, outside nowhere and beyond no end.
 use Rattle.std.proofs.Common.{◌≡◌, ℕ, ◌<◌, ◌≢◌, List, ap, ◌∙◌, subst, inl, inr, arith}
-use native.Mathlib.Decide.{ℕ_discrete}
+use Rattle.std.proofs.lemmas.Bool.{cases_eq}
 use Rattle.exact.specs.Plane.{Point, point}
 use Rattle.exact.proofs.Booleans.{true_false}
 use Rattle.exact.proofs.Algebra.Signs.{weak, zero_sign, clash, clash_zero}
@@ -38,9 +38,9 @@ module _ {pos : ℕ → Point} {m : Map} (S : Sound m) (G : Geometric pos m) (v 
   some z = omega (arith, z, S.face_in e h)
 
   not_between : Between a b (site G v) → ⊥
-  not_between k = elim (ℕ_discrete (m.face e) 0) [
-    | yes z ↦ none_between G e h z v l k
-    | no z ↦
+  not_between k = elim (cases_eq (m.face e) 0) [
+    | inl z ↦ none_between G e h z v l k
+    | inr z ↦
         let t = face_left G e h z in let w = W_site (site G v) in
         at_corner t (vertex_corner S G (some z) v l e (h, z) (record { ab = zero_sign k.on; bc = weak (segment_left_bc a b c (pos v) w t k); ca = weak (segment_left_ca a b c (pos v) w t k) }))
   ]

@@ -1,6 +1,6 @@
 -- In a closed face: a place on the lines of two sides is at the corner between them, on the line of one alone strictly between its ends, and on none strictly inside.
 use Rattle.std.proofs.Common.{◌≡◌, ℕ, ◌<◌, true, false, ◌≢◌, List, ℤ, pos, sym, ap, ◌∙◌, ap₂, inl, inr, arith}
-use borrow.Author.Differences.{ints}
+use Rattle.std.proofs.lemmas.Int.{ints}
 use Rattle.exact.proofs.Algebra.Signs.{Sign, ◌by◌, strict_or_zero, zero_sign_neg, clash_zero}
 use Rattle.exact.proofs.Geometry.Words.{orient, Site, Orient, Left, On, Same, Between, InTriangle}
 use Rattle.exact.proofs.Geometry.Tests.{left←}

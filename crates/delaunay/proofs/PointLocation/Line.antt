@@ -1,8 +1,8 @@
 -- On a line: all vertices are on the line of any half edge, and where the next half edge is not the twin it goes on past the end, so that fewer vertices are left ahead.
 use Rattle.std.proofs.Common.{◌≡◌, ℕ, ◌<◌, ◌≤◌, Bool, true, false, ◌≢◌, List, neg_ℤ, sym, ap, ◌∙◌, subst, inl, inr, arith}
-use borrow.Author.Differences.{ints}
+use Rattle.std.proofs.lemmas.Int.{ints}
 use Rattle.exact.specs.Plane.{Point, each, up_to}
-use Rattle.exact.proofs.Booleans.{is_false}
+use Rattle.std.proofs.lemmas.Bool.{false_from_ne_true}
 use Rattle.exact.proofs.Lists.{In, count, count_≤length, count_strict, in_each, each_in, each_length, up_to→, up_to←, up_to_length}
 use Rattle.exact.proofs.Algebra.Signs.{Sign, ◌by◌, weak, clash_zero, cancel}
 use Rattle.exact.proofs.Algebra.IntegerTests.{above?, above?→, above?←}
@@ -89,7 +89,7 @@ module _ {pos : ℕ → Point} {m : Map} (S : Sound m) (G : Geometric pos m) (fl
     pub fewer_ahead : left_ahead n < left_ahead e
     unfolding left_ahead past_end
     fewer_ahead = count_strict (past_end n) (past_end e) sites still_past w (in_each (site G) (up_to m.vertices) (m.origin (twin n)) (up_to← m.vertices (m.origin (twin n)) (stop_in S n hn)))
-        (is_false (past_end n w) (λ t. clash_zero (above?→ (neg_ℤ (Dot w (start G n) w)) t) (ap neg_ℤ (along_start w (start G n)))))
+        (false_from_ne_true (past_end n w) (λ t. clash_zero (above?→ (neg_ℤ (Dot w (start G n) w)) t) (ap neg_ℤ (along_start w (start G n)))))
         (above?← (neg_ℤ (Dot v s w)) goes_on.opposite)
 
   -- ---- a place on the line, and not behind the start of e

@@ -1,8 +1,8 @@
 -- Where a place is, told right on a line: beside it, past its end, at a vertex or strictly between two.
 use Rattle.std.proofs.Common.{◌≡◌, ℕ, ◌<◌, ◌≤◌, Bool, true, false, not, ◌&&◌, eqb, ◌⊎◌, List, neg_ℤ, Some, None, refl, ap, inl, inr, arith}
-use borrow.Author.Differences.{ints}
+use Rattle.std.proofs.lemmas.Int.{ints}
 use Rattle.exact.specs.Plane.{pick, same_spot}
-use Rattle.exact.proofs.Booleans.{either, eqb→, eqb_false→}
+use Rattle.std.proofs.lemmas.Bool.{cases_Bool, eqb-true, eqb-false}
 use Rattle.exact.proofs.Algebra.Signs.{Sign, ◌by◌, clash_below, is_zero}
 use Rattle.exact.proofs.Geometry.Words.{Site, Dot, On, Between, dist²_sign}
 use Rattle.exact.proofs.Geometry.Tests.{left←}
@@ -51,12 +51,12 @@ module _ (s : Size) (m : List ℕ) (S : Sound (map_of s m)) (G : Geometric (plac
       let n = cell s edge_next m e in
       let past? = passed s m p.at e in
       let end? = eqb n (twin e) in
-      elim (either past?) [
+      elim (cases_Bool past?) [
         | inr x ↦ inl (rw x)
-        | inl x ↦ elim (either end?) [
+        | inl x ↦ elim (cases_Bool end?) [
           | inl y ↦ inl (rw (x, y))
           | inr y ↦
-              let on = eqb_false→ n (twin e) y in
+              let on = eqb-false n (twin e) y in
               inr (record {
                 turns = left_ahead S G flat n;
                 to = n;
@@ -77,7 +77,7 @@ module _ (s : Size) (m : List ℕ) (S : Sound (map_of s m)) (G : Geometric (plac
 
     turned : passed s m p.at e ≡ true → (map_of s m).next e ≡ twin e
     unfolding went_on
-    turned x = let n = cell s edge_next m e in eqb→ n (twin e) (at_end_if (passed s m p.at e) (eqb n (twin e)) n still x)
+    turned x = let n = cell s edge_next m e in eqb-true n (twin e) (at_end_if (passed s m p.at e) (eqb n (twin e)) n still x)
 
     past_it : passed s m p.at e ≡ true → Between a p b
     past_it x = let o = f.on_line in record { on = omega (arith, ints, orders a b p); opposite = passed→ s m e p.at x }
@@ -111,7 +111,7 @@ module _ (s : Size) (m : List ℕ) (S : Sound (map_of s m)) (G : Geometric (plac
       enough : left_ahead S G flat e ≤ line_fuel s
       enough = omega (arith, left_ahead_bound S G flat e, line_fuel_enough s m)
 
-  -- ---- from either half of an edge
+  -- ---- from cases_Bool half of an edge
   module _ (e : ℕ) (h : e < (map_of s m).half_edges) where
     abbrev a₀ : Site
     a₀ = start G e

@@ -1,6 +1,6 @@
 -- A place outside, or on a line past its end, is on no segment between two vertices.
 use Rattle.std.proofs.Common.{◌≡◌, ℕ, ◌<◌, ◌≤◌, inl, inr, arith}
-use borrow.Author.Differences.{ints}
+use Rattle.std.proofs.lemmas.Int.{ints}
 use Rattle.exact.specs.Plane.{Point}
 use Rattle.exact.proofs.Algebra.Signs.{clash}
 use Rattle.exact.proofs.Geometry.Words.{Site, Left, On, Apart, Between}

@@ -1,6 +1,6 @@
 -- Memory that differs in the list of edges alone has the same mesh at the same places; and memory with the same vertices, whatever the edges between them.
 use Rattle.std.proofs.Common.{◌≡◌, ℕ, ◌*◌, ◌%◌, ◌<◌, ◌≢◌, List, length, sym, refl, ap, ◌∙◌, subst, arith}
-use mathlib.Core.Path.{fun_ext}
+use Rattle.std.proofs.Math.Path.{fun_ext}
 use Rattle.exact.specs.Plane.{each, up_to, Point, point, vertex}
 use Rattle.dcel.specs.Layout.{Size, Table, header, vertex_x, vertex_y, vertex_data, vertex_out, edge_next, edge_prev, edge_face, edge_origin, face_edge, worklist}
 use Rattle.dcel.specs.Map.{Map}

@@ -1,6 +1,6 @@
 -- Half edges of listed edges, and memory whose wrong edges are all on the list.
 use Rattle.std.proofs.Common.{◌≡◌, ℕ, ◌+◌, ◌*◌, ◌/◌, ◌<◌, ◌⊎◌, List, ◌∷◌, inl, inr, arith}
-use native.Mathlib.Decide.{ℕ_discrete}
+use Rattle.std.proofs.lemmas.Bool.{cases_eq}
 use Rattle.exact.proofs.Lists.{In}
 use Rattle.dcel.specs.Layout.{Size}
 use Rattle.dcel.specs.Map.{twin}
@@ -13,7 +13,7 @@ use Rattle.delaunay.proofs.Settling.Beside.{beside, beside_vertices, beside_held
 use Rattle.delaunay.proofs.Settling.Pushing.{Adds}
 
 pub edge_on : (l : List ℕ) (e : ℕ) → AmongListed (e / 2) l → EdgeListed (HalfListed l) e
-edge_on l e k = inl (e / 2, k, elim (ℕ_discrete e (2 * (e / 2))) [ yes q ↦ inl q | no q ↦ inr (omega arith) ])
+edge_on l e k = inl (e / 2, k, elim (cases_eq e (2 * (e / 2))) [ inl q ↦ inl q | inr q ↦ inr (omega arith) ])
 
 pub still_on : (l r : List ℕ) → ((i : ℕ) → AmongListed i l → AmongListed i r) → (e : ℕ) → EdgeListed (HalfListed l) e → EdgeListed (HalfListed r) e
 still_on l r f e (inl k) = inl (k.0, f k.0 k.1, k.2)

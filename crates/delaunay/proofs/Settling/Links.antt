@@ -1,6 +1,6 @@
 -- Edges linked from a head on: none is there twice.
-use Rattle.std.proofs.Common.{◌≡◌, ℕ, ◌+◌, ◌*◌, ◌<◌, ◌≤◌, ◌≢◌, ◌⊎◌, List, [], ◌∷◌, length, sym, refl, ap, ◌∙◌, subst, inl, inr, arith}
-use native.Mathlib.Decide.{ℕ_discrete}
+use Rattle.std.proofs.Common.{◌≡◌, ℕ, ◌+◌, ◌*◌, ◌<◌, ◌≤◌, ◌≢◌, ◌⊎◌, List, [], ◌∷◌, length, sym, refl, ap, ◌∙◌, subst, inl, inr, arith, ⊎_elim}
+use Rattle.std.proofs.lemmas.Bool.{cases_eq}
 use Rattle.dcel.specs.Layout.{Size, header, worklist}
 use Rattle.dcel.specs.Patch.{Patch}
 use Rattle.dcel.specs.Memory.{cell}
@@ -10,9 +10,9 @@ use Rattle.delaunay.specs.Kept.{Linked, AmongListed, Lists}
 
 pub listed? : (i : ℕ) (l : List ℕ) → AmongListed i l ⊎ (AmongListed i l → ⊥)
 listed? i [] = inr (λ k. k)
-listed? i (j ∷ l) = elim (ℕ_discrete i j) [
-  | yes q ↦ inl (inl q)
-  | no q ↦ elim (listed? i l) [ inl k ↦ inl (inr k) | inr f ↦ inr (λ k. elim k [ inl p ↦ q p | inr k ↦ f k ]) ]
+listed? i (j ∷ l) = elim (cases_eq i j) [
+  | inl q ↦ inl (inl q)
+  | inr q ↦ elim (listed? i l) [ inl k ↦ inl (inr k) | inr f ↦ inr (⊎_elim q f) ]
 ]
 
 module _ (s : Size) (m : List ℕ) where

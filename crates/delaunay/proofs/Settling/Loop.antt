@@ -1,5 +1,5 @@
 -- The loop ends with nothing on the list and every edge right: the fuel is more than four times the volume and all edges.
-use Rattle.std.proofs.Common.{◌≡◌, ℕ, zero, suc, ◌+◌, ◌-◌, ◌*◌, ◌<◌, ◌≤◌, List, [], ◌∷◌, sym, refl, subst, inl, inr, mod-lt, mul-le-mul, arith}
+use Rattle.std.proofs.Common.{◌≡◌, ℕ, zero, suc, ◌+◌, ◌-◌, ◌*◌, ◌<◌, ◌≤◌, List, [], ◌∷◌, sym, refl, subst, inl, inr, mod-lt, mul-le-mul, arith, le_trans}
 use Rattle.dcel.specs.Layout.{Size, header, vertex_x, vertex_y}
 use Rattle.dcel.specs.Memory.{cell, map_of, half_edges_in, faces_in}
 use Rattle.dcel.proofs.Becoming.{at_most_below}
@@ -43,16 +43,13 @@ module _ (s : Size) where
 
   -- a remainder by 0 is the number itself: at such a size the coordinates would have no limit, nor would the volume
   volume_most : (m : List ℕ) → 0 < s.coordinates → Held s m → volume_of s m ≤ (2 * s.vertices) * (4 * (s.coordinates * s.coordinates) * (6 * (s.coordinates * s.coordinates)))
-  volume_most m c H = below (volume_small s.coordinates (place_of s m) (map_of s m) H.holds.mesh.sound bounded) (mul-le-mul few (omega arith))
+  volume_most m c H = le_trans (volume_small s.coordinates (place_of s m) (map_of s m) H.holds.mesh.sound bounded) (mul-le-mul few (omega arith))
     where
       bounded : (v : ℕ) → v < (map_of s m).vertices → Bounded s.coordinates (place_of s m v)
       bounded v h = record { x_at_most = omega (arith, mod-lt (cell s vertex_x m v) c); y_at_most = omega (arith, mod-lt (cell s vertex_y m v) c); whole = refl }
 
       few : faces_in s m - 1 ≤ 2 * s.vertices
       few = omega (arith, at_most_below (2 * s.vertices) (cell s header m 2))
-
-      below : {a b c : ℕ} → a ≤ b → b ≤ c → a ≤ c
-      below p q = omega arith
 
   pub legalized_settled : (m l : List ℕ) → 0 < s.coordinates → Unsettled s m l → Legalized s m (legalized s m)
   unfolding legalized settle_fuel

@@ -1,7 +1,6 @@
 -- The first edge comes off the list, and nothing else changes.
-use Rattle.std.proofs.Common.{◌≡◌, ℕ, ◌+◌, ◌-◌, ◌*◌, ◌≤◌, List, [], ◌∷◌, length, Some, None, sym, refl, ap, ◌∙◌, subst, inl, inr, arith}
-use native.Mathlib.Decide.{ℕ_discrete}
-use Rattle.std.proofs.lemmas.Bool.{eq-eqb, ne_eqb}
+use Rattle.std.proofs.Common.{◌≡◌, ℕ, ◌+◌, ◌-◌, ◌*◌, ◌≤◌, List, [], ◌∷◌, length, Some, None, sym, refl, ap, ◌∙◌, subst, inl, inr, arith, ⊎_elim}
+use Rattle.std.proofs.lemmas.Bool.{eq-eqb, ne_eqb, cases_eq}
 use Rattle.dcel.specs.Layout.{Size, header, worklist, total}
 use Rattle.dcel.specs.Memory.{cell, put}
 use Rattle.dcel.proofs.Counting.{zero_bit_zero, zero_bit_positive}
@@ -50,7 +49,7 @@ module _ (s : Size) (m : List ℕ) (i : ℕ) (l : List ℕ) (L : Lists s m (i �
   takes R = record {
     lists = record {
       linked = subst (λ (h : ℕ). Linked s taken h l) (sym R.head_is) rest;
-      others = λ j f. elim (ℕ_discrete j i) [ yes q ↦ ap (cell s worklist taken) q ∙ R.word_is | no q ↦ R.others_are j q ∙ L.others j (λ k. elim k [ inl p ↦ q p | inr a ↦ f a ]) ];
+      others = λ j f. elim (cases_eq j i) [ inl q ↦ ap (cell s worklist taken) q ∙ R.word_is | inr q ↦ R.others_are j q ∙ L.others j (⊎_elim q f) ];
     };
     beside = R.beside;
     off_is = omega (arith, R.off_are, zero_bit_zero, zero_bit_positive (cell s worklist m i) (omega (arith, L.linked.2.1)));

@@ -1,7 +1,6 @@
 -- Edges that come on the list: just those, each once, and nothing else changes.
 use Rattle.std.proofs.Common.{◌≡◌, ℕ, ◌+◌, ◌*◌, ◌/◌, ◌<◌, ◌≤◌, ◌≢◌, ◌⊎◌, List, [], ◌∷◌, ◌++◌, length, sym, refl, ap, ◌∙◌, subst, inl, inr, arith, length-append}
-use native.Mathlib.Decide.{ℕ_discrete}
-use Rattle.std.proofs.lemmas.Bool.{eq-eqb, ne_eqb}
+use Rattle.std.proofs.lemmas.Bool.{eq-eqb, ne_eqb, cases_eq}
 use Rattle.exact.proofs.Lists.{In, in_left, in_right, in_append}
 use Rattle.dcel.specs.Layout.{Size, header, worklist, edge_next, edge_prev, total}
 use Rattle.dcel.specs.Memory.{cell, map_of, half_edges_in}
@@ -78,9 +77,9 @@ module _ (s : Size) where
 
     pub adds_edge : Adds s m l (e ∷ []) (pushed s m e)
     unfolding pushed
-    adds_edge = elim (ℕ_discrete (cell s worklist m (e / 2)) 0) [
-      | yes q ↦ rw (eq-eqb (cell s worklist m (e / 2)) 0 q) (comes _ q (word_first s m z (e / 2) (head_of s m + 1) (e / 2 + 1) r))
-      | no q ↦ rw (ne_eqb (cell s worklist m (e / 2)) 0 q) (there q)
+    adds_edge = elim (cases_eq (cell s worklist m (e / 2)) 0) [
+      | inl q ↦ rw (eq-eqb (cell s worklist m (e / 2)) 0 q) (comes _ q (word_first s m z (e / 2) (head_of s m + 1) (e / 2 + 1) r))
+      | inr q ↦ rw (ne_eqb (cell s worklist m (e / 2)) 0 q) (there q)
     ]
 
   -- one more

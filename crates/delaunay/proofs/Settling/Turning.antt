@@ -1,6 +1,6 @@
 -- One turn: the first edge comes off the list, and is flipped if it is wrong, with the four sides of its quadrilateral put on.
 use Rattle.std.proofs.Common.{◌≡◌, ℕ, ◌+◌, ◌*◌, ◌<◌, Bool, true, false, List, [], ◌∷◌, Some, sym, refl, ap, subst, inl, inr, arith}
-use mathlib.Core.Path.{fun_ext}
+use Rattle.std.proofs.Math.Path.{fun_ext}
 use Rattle.exact.specs.Plane.{Point, pick}
 use Rattle.exact.proofs.Lists.{In}
 use Rattle.dcel.specs.Layout.{Size}

@@ -1,28 +1,19 @@
 -- The head and the word of one edge are written: nothing but the list changes, and of the words only that one.
-use Rattle.std.proofs.Common.{◌≡◌, ℕ, zero, suc, ◌+◌, ◌*◌, ◌<◌, ◌≤◌, Bool, true, false, cond, eqb, ◌≢◌, List, [], ◌∷◌, length, refl, ap, ◌∙◌, arith}
-use mathlib.Core.Path.{fun_ext}
-use Rattle.std.proofs.lemmas.Bool.{eq-eqb, ne_eqb}
+use Rattle.std.proofs.Common.{◌≡◌, ℕ, ◌+◌, ◌*◌, ◌<◌, ◌≤◌, cond, eqb, ◌≢◌, List, [], ◌∷◌, length, refl, ap, ◌∙◌, arith}
+use Rattle.std.proofs.Math.Path.{fun_ext}
+use Rattle.std.proofs.lemmas.Bool.{eq-eqb, ne_eqb, cond-true, cond-false}
 use Rattle.dcel.specs.Layout.{Size, header, worklist, total}
 use Rattle.dcel.specs.Pairs.{changed}
 use Rattle.dcel.specs.Mesh.{zero_bit, zero_count}
 use Rattle.dcel.specs.Memory.{cell, put}
 use Rattle.dcel.proofs.Cells.{cell_same, cell_other, length_put}
-use Rattle.dcel.proofs.Counting.{changes}
+use Rattle.dcel.proofs.Counting.{changes, zero_count_most}
 use Rattle.delaunay.specs.Worklist.{list_head}
 use Rattle.delaunay.proofs.Settling.Beside.{SameButList}
 
 -- how many edges are off the list
 abbrev pub off_list : Size → List ℕ → ℕ
 off_list s m = zero_count (cell s worklist m) (3 * s.vertices)
-
-zero_count_most : (f : ℕ → ℕ) (n : ℕ) → zero_count f n ≤ n
-unfolding zero_count zero_bit
-zero_count_most f zero = omega arith
-zero_count_most f (suc n) = one (eqb (f n) 0) (zero_count_most f n)
-  where
-    one : (b : Bool) → zero_count f n ≤ n → cond b 1 0 + zero_count f n ≤ suc n
-    one true h = omega arith
-    one false h = omega arith
 
 pub off_list_most : (s : Size) (m : List ℕ) → off_list s m ≤ 3 * s.vertices
 off_list_most s m = zero_count_most (cell s worklist m) (3 * s.vertices)
@@ -41,8 +32,8 @@ module _ (s : Size) (m : List ℕ) (z : total s ≤ length m) (i w h : ℕ) (r :
   relinked n B q f = record {
     beside = B;
     head_is = q;
-    word_is = f i ∙ ap (λ (b : Bool). cond b w (cell s worklist m i)) (eq-eqb i i refl);
-    others_are = λ j p. f j ∙ ap (λ (b : Bool). cond b w (cell s worklist m j)) (ne_eqb j i p);
+    word_is = f i ∙ cond-true (eqb i i) _ _ (eq-eqb i i refl);
+    others_are = λ j p. f j ∙ cond-false (eqb j i) _ _ (ne_eqb j i p);
     off_are = off;
   }
     where
@@ -66,7 +57,7 @@ module _ (s : Size) (m : List ℕ) (z : total s ≤ length m) (i w h : ℕ) (r :
       beside = record {
         long = length_put s header with_word list_head h ∙ length_put s worklist m i w;
         table_is = λ k a b j. cell_other s k header with_word list_head h j a ∙ cell_other s k worklist m i w j b;
-        header_is = λ j q. head j ∙ ap (λ (b : Bool). cond b h (cell s header m j)) (ne_eqb j list_head q);
+        header_is = λ j q. head j ∙ cond-false (eqb j list_head) _ _ (ne_eqb j list_head q);
       }
 
   -- the head first
@@ -84,5 +75,5 @@ module _ (s : Size) (m : List ℕ) (z : total s ≤ length m) (i w h : ℕ) (r :
       beside = record {
         long = length_put s worklist with_head i w ∙ length_put s header m list_head h;
         table_is = λ k a b j. cell_other s k worklist with_head i w j b ∙ cell_other s k header m list_head h j a;
-        header_is = λ j q. head j ∙ ap (λ (b : Bool). cond b h (cell s header m j)) (ne_eqb j list_head q);
+        header_is = λ j q. head j ∙ cond-false (eqb j list_head) _ _ (ne_eqb j list_head q);
       }

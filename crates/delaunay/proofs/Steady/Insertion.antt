@@ -1,5 +1,5 @@
 -- Putting a point in, wherever it is, keeps what the writing of words keeps.
-use Rattle.std.proofs.Common.{ℕ, ◌+◌, ◌≤◌, eqb, List, arith}
+use Rattle.std.proofs.Common.{ℕ, ◌+◌, ◌≤◌, eqb, List, Some, None, Option, arith}
 use Rattle.exact.specs.Plane.{Point, point}
 use Rattle.dcel.specs.Layout.{Size, vertex_data, edge_next, edge_prev, edge_face}
 use Rattle.dcel.specs.Map.{twin}
@@ -10,7 +10,10 @@ use Rattle.dcel.specs.Surgery.{attach_change, split_face_change}
 use Rattle.dcel.specs.EdgeSurgery.{split_inner_edge_change, split_hull_edge_change, split_line_edge_change, split_line_end_change, extend_line_change}
 use Rattle.delaunay.specs.Walk.{left_at, located}
 use Rattle.delaunay.specs.Where.{Where, on_vertex, on_edge, in_face, outside, beyond, no_edge}
-use Rattle.delaunay.specs.Outside.{Rim, rim, ear_listed, closed_ahead, closed_behind, ear_fuel, all_ahead, all_behind, put_outside}
+use Rattle.delaunay.specs.declared.outside.Way.{Way}
+use Rattle.delaunay.specs.declared.outside.Way.TheVariants.{Ahead, Behind}
+use Rattle.delaunay.specs.Iterate.{or_else}
+use Rattle.delaunay.specs.Outside.{Rim, rim, ear_listed, ear_seen, closed_on, ear_fuel, ears_closed, put_outside}
 use Rattle.delaunay.specs.Insert.{put_in_face, put_between, put_on_hull, put_on_line, put_on_edge, put_alone, put_at, number_at, put_and_settled, full_at, inserted, inserted_number}
 use Rattle.delaunay.proofs.Steady.Listing.{Has, either_way, iterate_keeps, pushed_face_keeps, legalized_keeps}
 use Rattle.delaunay.proofs.Steady.Walking.{WordPlace, located_word}
@@ -33,31 +36,30 @@ module _ (s : Size) (P : List ℕ → Type 0) (W : ℕ → Type 0) (K : Keeping 
   last_word m = K.few (omega (arith, (counted s m).half_edges_few))
 
   module _ (q : Point) where
-    ahead_keeps : (r : Rim) → RimKept P W r → Has (RimKept P W) (closed_ahead s q r)
-    unfolding closed_ahead
-    ahead_keeps r h =
-        either_way (Has (RimKept P W)) (left_at s r.words (cell s edge_next r.words r.edge) q) _ _
-        (record { words = ear_listed_keeps r.words r.edge h.words h.edge; edge = last_word r.words }) tt
+    seen_word : (way : Way) (r : Rim) → RimKept P W r → Has W (ear_seen s way q r.words r.edge)
+    unfolding ear_seen
+    seen_word Ahead r h = either_way (Has W) (left_at s r.words (cell s edge_next r.words r.edge) q) (Some r.edge) None h.edge tt
+    seen_word Behind r h =
+        either_way (Has W) (left_at s r.words (cell s edge_prev r.words r.edge) q) (Some (cell s edge_prev r.words r.edge)) None (K.read _ _ h.words) tt
 
-    behind_keeps : (r : Rim) → RimKept P W r → Has (RimKept P W) (closed_behind s q r)
-    unfolding closed_behind
-    behind_keeps r h =
-        either_way (Has (RimKept P W)) (left_at s r.words (cell s edge_prev r.words r.edge) q) _ _
-        (record { words = ear_listed_keeps r.words (cell s edge_prev r.words r.edge) h.words (K.read _ _ h.words); edge = last_word r.words }) tt
+    ear_keeps_rim : (r : Rim) → RimKept P W r → (o : Option ℕ) → Has W o → Has (RimKept P W) (or_else o None (λ e. Some (rim (ear_listed s r.words e) (half_edges_in s r.words))))
+    ear_keeps_rim r h None w = tt
+    ear_keeps_rim r h (Some e) w = record { words = ear_listed_keeps r.words e h.words w; edge = last_word r.words }
 
-    all_ahead_keeps : (m : List ℕ) (e : ℕ) → P m → W e → P (all_ahead s q m e)
-    unfolding all_ahead
-    all_ahead_keeps m e p w = (iterate_keeps (RimKept P W) (closed_ahead s q) ahead_keeps (ear_fuel s) (rim m e) (record { words = p; edge = w })).words
+    closed_keeps : (way : Way) (r : Rim) → RimKept P W r → Has (RimKept P W) (closed_on s way q r)
+    unfolding closed_on
+    closed_keeps way r h = ear_keeps_rim r h (ear_seen s way q r.words r.edge) (seen_word way r h)
 
-    all_behind_keeps : (m : List ℕ) (e : ℕ) → P m → W e → P (all_behind s q m e)
-    unfolding all_behind
-    all_behind_keeps m e p w = (iterate_keeps (RimKept P W) (closed_behind s q) behind_keeps (ear_fuel s) (rim m e) (record { words = p; edge = w })).words
+    ears_closed_keeps : (way : Way) (m : List ℕ) (e : ℕ) → P m → W e → P (ears_closed s way q m e)
+    unfolding ears_closed
+    ears_closed_keeps way m e p w =
+        (iterate_keeps (RimKept P W) (closed_on s way q) (closed_keeps way) (ear_fuel s) (rim m e) (record { words = p; edge = w })).words
 
   module _ (m : List ℕ) (p : P m) (x y d : ℕ) (wx : W x) (wy : W y) (wd : W d) where
     outside_keeps : (e : ℕ) → W e → P (put_outside s m e x y d)
     unfolding put_outside
     outside_keeps e w =
-        all_behind_keeps (point x y) _ _ (all_ahead_keeps (point x y) _ _
+        ears_closed_keeps (point x y) Behind _ _ (ears_closed_keeps (point x y) Ahead _ _
         (pushed_face_keeps s P W K _ e (growth_keeps s P W K attach_change (attach_words s P W K) m e p w wx wy wd) w) (new_word m 1 (omega arith))) (new_word m 3 (omega arith))
 
     in_face_keeps : (e : ℕ) → W e → P (put_in_face s m e x y d)

@@ -1,6 +1,6 @@
 -- The worklist and the flips keep what the writing of words keeps; and so do loops, if each turn does.
-use Rattle.std.proofs.Common.{ℕ, zero, suc, ◌+◌, ◌-◌, ◌*◌, ◌/◌, Bool, eqb, List, Some, None, Option, arith}
-use native.Mathlib.Decide.{dec_lt}
+use Rattle.std.proofs.Common.{ℕ, zero, suc, ◌+◌, ◌-◌, ◌*◌, ◌/◌, Bool, eqb, List, Some, None, Option, arith, inl, inr}
+use Rattle.std.proofs.lemmas.Bool.{cases_lt}
 use Rattle.exact.specs.Plane.{pick}
 use Rattle.dcel.specs.Layout.{Size, header, worklist}
 use Rattle.dcel.specs.Memory.{cell}
@@ -33,7 +33,7 @@ iterate_keeps {A} Q step keeps (suc n) a q = by (step a) (keeps a q) (λ b r. it
 module _ (s : Size) (P : List ℕ → Type 0) (W : ℕ → Type 0) (K : Keeping s P W) where
   -- one more than an edge
   edge_word : (e : ℕ) → W e → W (e / 2 + 1)
-  edge_word e w = elim (dec_lt e 2) [ yes h ↦ K.few (omega arith) | no h ↦ K.less (omega arith) w ]
+  edge_word e w = elim (cases_lt e 2) [ inl h ↦ K.few (omega arith) | inr h ↦ K.less (omega arith) w ]
 
   pub pushed_keeps : (m : List ℕ) (e : ℕ) → P m → W e → P (pushed s m e)
   unfolding pushed

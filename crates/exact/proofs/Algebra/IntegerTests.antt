@@ -1,7 +1,7 @@
 -- Tests of an integer's sign as Booleans, for counting: above 0, at 0, not below 0.
 use Rattle.std.proofs.Common.{◌≡◌, zero, suc, ◌≤◌, Bool, true, false, ℤ, pos, negsuc, neg_ℤ, refl, ap, true≢false, arith}
-use mathlib.Core.Bool.{false≢true}
-use Rattle.exact.proofs.Booleans.{bit, is_false, bit_mono}
+use Rattle.std.proofs.lemmas.Bool.{false≢true, false_from_ne_true}
+use Rattle.exact.proofs.Booleans.{bit, bit_mono}
 use Rattle.exact.proofs.Algebra.Signs.{Sign, clash, clash_below}
 
 unfoldable pub above? : ℤ → Bool
@@ -37,7 +37,7 @@ not_above?→ (pos (suc n)) e = absurd (true≢false e)
 not_above?→ (negsuc n) e = record { bound = omega arith }
 
 pub not_above?← : (z : ℤ) → Sign false (neg_ℤ z) → above? z ≡ false
-not_above?← z h = is_false (above? z) (λ e. clash (above?→ z e) h)
+not_above?← z h = false_from_ne_true (above? z) (λ e. clash (above?→ z e) h)
 
 pub zero?→ : (z : ℤ) → zero? z ≡ true → z ≡ pos 0
 unfolding zero?
@@ -65,7 +65,7 @@ below?→ (pos n) e = absurd (true≢false e)
 below?→ (negsuc n) e = record { bound = omega arith }
 
 pub below?← : (z : ℤ) → Sign true (neg_ℤ z) → not_below? z ≡ false
-below?← z h = is_false (not_below? z) (λ e. clash_below z (not_below?→ z e) h)
+below?← z h = false_from_ne_true (not_below? z) (λ e. clash_below z (not_below?→ z e) h)
 
 -- as bits
 pub not_below_mono : (y z : ℤ) → (Sign false y → Sign false z) → bit (not_below? y) ≤ bit (not_below? z)

@@ -1,7 +1,8 @@
 -- The ring laws of ℤ that the library lacks, and the integer that a difference stands for.
 use Rattle.std.proofs.Common.{◌≡◌, ℕ, ◌+◌, ◌*◌, ℤ, pos, ◌+ℤ◌, ◌-ℤ◌, ◌*ℤ◌, neg_ℤ, ap, ◌∙◌, ap₂, arith}
-use lib.IntN.{*ℤ_comm}
-use borrow.Author.Differences.{ints, up, down, same_in, sum_is_lem, neg_is, product_is}
+use Rattle.std.proofs.Math.IntN.{*ℤ_comm}
+use borrow.Author.Differences.{up, down, same_in, sum_is_lem, neg_is, product_is}
+use Rattle.std.proofs.lemmas.Int.{ints}
 use Rattle.exact.specs.Plane.{Diff, plus, minus, times}
 
 up_times : (a b : ℤ) → up (a *ℤ b) ≡ up a * up b + down a * down b

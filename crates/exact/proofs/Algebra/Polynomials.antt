@@ -1,8 +1,8 @@
 -- Polynomials over ℤ in a normal form, and their values. `layer h t` is h + X · t, where X is the first variable and h has only the others.
 -- Zeros are pruned everywhere, so a polynomial whose value is always 0 computes to `none`.
 use Rattle.std.proofs.Common.{◌≡◌, zero, suc, List, [], ◌∷◌, ℤ, pos, negsuc, ◌+ℤ◌, ◌-ℤ◌, ◌*ℤ◌, neg_ℤ, sym, refl, ap, ◌∙◌, ap₂, arith}
-use lib.IntN.{+ℤ_assoc, +ℤ_idl, +ℤ_idr, *ℤ_comm, zero-*ℤ, *ℤ-zero}
-use borrow.Author.Differences.{ints}
+use Rattle.std.proofs.Math.IntN.{+ℤ_assoc, +ℤ_idl, +ℤ_idr, *ℤ_comm, zero-*ℤ, *ℤ-zero}
+use Rattle.std.proofs.lemmas.Int.{ints}
 use Rattle.exact.proofs.Algebra.Integers.{*ℤ_assoc, *ℤ-+ℤ, +ℤ-*ℤ, +ℤ_exchange}
 
 pub data Polynomial : Type 0 where

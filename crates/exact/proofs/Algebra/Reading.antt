@@ -1,6 +1,6 @@
 -- Reading an integer as a polynomial. `search` does it: one rule to an operation, and rules for where an integer stands in the list of variables.
 use Rattle.std.proofs.Common.{◌≡◌, ℕ, ◌+◌, ◌*◌, List, ◌∷◌, ℤ, pos, ◌+ℤ◌, ◌-ℤ◌, ◌*ℤ◌, neg_ℤ, sym, ap, ◌∙◌, ap₂}
-use lib.IntN.{+ℤ_idl}
+use Rattle.std.proofs.Math.IntN.{+ℤ_idl}
 use Rattle.exact.specs.Plane.{Diff, diff, plus, minus, times}
 use Rattle.exact.proofs.Algebra.Integers.{value, value_plus, value_minus, value_times}
 use Rattle.exact.proofs.Algebra.Polynomials.{Polynomial, none, eval, as_number, add, subtract, multiply, variable, later, eval_as_number, eval_add, eval_subtract, eval_multiply, eval_variable, eval_later}

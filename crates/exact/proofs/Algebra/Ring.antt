@@ -1,6 +1,6 @@
 -- Identities of integers by computing: `ring (the variables) (search integers depth 20) refl`.
 use Rattle.std.proofs.Common.{◌≡◌, List, ℤ, pos, ◌-ℤ◌, sym, ap, ◌∙◌, arith}
-use borrow.Author.Differences.{ints}
+use Rattle.std.proofs.lemmas.Int.{ints}
 use Rattle.exact.proofs.Algebra.Polynomials.{none, eval}
 use Rattle.exact.proofs.Algebra.Reading.{Known, known_sum, known_product, known_negative, known_0, known_1, known_2, listed_here, listed_later, known_variable}
 

@@ -1,6 +1,6 @@
 -- Rules for `search`, which wants the strictness of each part: `search integer_signs` finds the sign of a sum of products from the signs of their factors.
 use Rattle.std.proofs.Common.{◌≡◌, Bool, true, false, ℤ, pos, ◌+ℤ◌, ◌*ℤ◌, neg_ℤ}
-use lib.IntN.{neg_ℤ-neg_ℤ, neg_ℤ-+ℤ}
+use Rattle.std.proofs.Math.IntN.{neg_ℤ-neg_ℤ, neg_ℤ-+ℤ}
 use Rattle.exact.proofs.Algebra.Signs.{Sign, ◌⊙◌, ◌⊞◌, ◌by◌, weak, square_sign, zero_sign, zero_sign_neg, left_zero, right_zero, neg_times, times_neg, neg_neg}
 
 pub times_strict : {a b : ℤ} → Sign true a → Sign true b → Sign true (a *ℤ b)

@@ -1,7 +1,8 @@
 -- Signs of integers: `Sign true z` is 0 < z, `Sign false z` is 0 ≤ z; what is below 0 is written by neg_ℤ.
 use Rattle.std.proofs.Common.{◌≡◌, ℕ, zero, suc, ◌+◌, ◌*◌, ◌≤◌, Bool, true, false, ◌&&◌, ◌⊎◌, ℤ, pos, negsuc, ◌+ℤ◌, ◌*ℤ◌, neg_ℤ, sym, refl, ap, ◌∙◌, subst, inl, inr, mul-le-mul, arith}
-use lib.IntN.{*ℤ_comm, neg_ℤ-neg_ℤ, zero-*ℤ, *ℤ-zero}
-use borrow.Author.Differences.{ints, up, down, same_in, sum_is_lem, neg_is}
+use Rattle.std.proofs.Math.IntN.{*ℤ_comm, neg_ℤ-neg_ℤ, zero-*ℤ, *ℤ-zero}
+use borrow.Author.Differences.{up, down, same_in, sum_is_lem, neg_is}
+use Rattle.std.proofs.lemmas.Int.{ints}
 use Rattle.exact.specs.Plane.{or}
 use Rattle.exact.proofs.Algebra.Integers.{neg_ℤ-*ℤ}
 use Rattle.exact.proofs.Booleans.{bit}

@@ -2,12 +2,13 @@
 use Rattle.std.proofs.Common.{◌≡◌, ℕ, ◌-◌, ◌<◌, true, false, ltb, pos, ◌+ℤ◌, neg_ℤ, ap, ◌∙◌, ap₂, arith}
 use borrow.Author.Differences.{up, down, same_in, neg_is}
 use Rattle.exact.specs.Plane.{Diff, plus, times, above_0, below_0}
-use Rattle.exact.proofs.Booleans.{same_test, ltb→, ltb←, ltb_false→, ltb_false←}
+use Rattle.std.proofs.lemmas.Bool.{ltb-true, lt-ltb, ltb-false, le-ltb}
+use Rattle.exact.proofs.Booleans.{same_test}
 use Rattle.exact.proofs.Algebra.Integers.{value, value_is, value_plus, value_times}
 use Rattle.exact.proofs.Algebra.Signs.{Sign, ◌⊞◌, ◌by◌, square_sign}
 
 same_order : (a b c d : ℕ) → (a < b → c < d) → (c < d → a < b) → ltb a b ≡ ltb c d
-same_order a b c d f g = same_test (ltb a b) (ltb c d) (λ t. ltb← c d (f (ltb→ a b t))) (λ t. ltb← a b (g (ltb→ c d t)))
+same_order a b c d f g = same_test (ltb a b) (ltb c d) (λ t. lt-ltb c d (f (ltb-true a b t))) (λ t. lt-ltb a b (g (ltb-true c d t)))
 
 -- equal values pass the same test, opposite values opposite tests
 pub above_same : (a b : Diff) → value a ≡ value b → above_0 a ≡ above_0 b
@@ -18,28 +19,28 @@ above_opposite a b e = same_order a.down a.up b.up b.down (λ h. omega (arith, v
 
 module _ (a : Diff) where
   pub above→ : above_0 a ≡ true → Sign true (value a)
-  above→ e = record { bound = omega (arith, value_is a, ltb→ a.down a.up e) }
+  above→ e = record { bound = omega (arith, value_is a, ltb-true a.down a.up e) }
 
   pub above← : Sign true (value a) → above_0 a ≡ true
-  above← h = ltb← a.down a.up (omega (arith, value_is a, h.bound))
+  above← h = lt-ltb a.down a.up (omega (arith, value_is a, h.bound))
 
   pub not_above→ : above_0 a ≡ false → Sign false (neg_ℤ (value a))
-  not_above→ e = record { bound = omega (arith, value_is a, neg_is (value a), ltb_false→ a.down a.up e) }
+  not_above→ e = record { bound = omega (arith, value_is a, neg_is (value a), ltb-false a.down a.up e) }
 
   pub not_above← : Sign false (neg_ℤ (value a)) → above_0 a ≡ false
-  not_above← h = ltb_false← a.down a.up (omega (arith, value_is a, neg_is (value a), h.bound))
+  not_above← h = le-ltb a.down a.up (omega (arith, value_is a, neg_is (value a), h.bound))
 
   pub below→ : below_0 a ≡ true → Sign true (neg_ℤ (value a))
-  below→ e = record { bound = omega (arith, value_is a, neg_is (value a), ltb→ a.up a.down e) }
+  below→ e = record { bound = omega (arith, value_is a, neg_is (value a), ltb-true a.up a.down e) }
 
   pub below← : Sign true (neg_ℤ (value a)) → below_0 a ≡ true
-  below← h = ltb← a.up a.down (omega (arith, value_is a, neg_is (value a), h.bound))
+  below← h = lt-ltb a.up a.down (omega (arith, value_is a, neg_is (value a), h.bound))
 
   pub not_below→ : below_0 a ≡ false → Sign false (value a)
-  not_below→ e = record { bound = omega (arith, value_is a, ltb_false→ a.up a.down e) }
+  not_below→ e = record { bound = omega (arith, value_is a, ltb-false a.up a.down e) }
 
   pub not_below← : Sign false (value a) → below_0 a ≡ false
-  not_below← h = ltb_false← a.up a.down (omega (arith, value_is a, h.bound))
+  not_below← h = le-ltb a.up a.down (omega (arith, value_is a, h.bound))
 
 -- a positive value as a natural number
 pub value_natural : (a : Diff) → Sign true (value a) → value a ≡ pos (a.up - a.down)

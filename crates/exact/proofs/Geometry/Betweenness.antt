@@ -1,7 +1,7 @@
 -- What is strictly between two sites: which way it lies, what it is apart from, and the two parts of the edge.
 use Rattle.std.proofs.Common.{◌≡◌, Bool, true, ℤ, pos, ◌+ℤ◌, ◌-ℤ◌, ◌*ℤ◌, neg_ℤ, sym, ap, ◌∙◌, inl, inr, arith}
-use lib.IntN.{neg_ℤ-neg_ℤ}
-use borrow.Author.Differences.{ints}
+use Rattle.std.proofs.Math.IntN.{neg_ℤ-neg_ℤ}
+use Rattle.std.proofs.lemmas.Int.{ints}
 use Rattle.exact.specs.Plane.{Point}
 use Rattle.exact.proofs.Algebra.Signs.{Sign, ◌⊙◌, ◌⊞◌, ◌by◌, split, left_zero, right_zero, neg_right, cancel, cancel_neg, cancel_zero, left_factor, times_neg}
 use Rattle.exact.proofs.Geometry.Words.{W, orient, dot, InSegment, Site, Orient, Dist², Dot, Left, LeftOn, RightOn, On, Apart, Between, signs, W_site}

@@ -1,6 +1,6 @@
 -- Circles and what is in a triangle, on the line of an edge, beyond an edge, or on two circles.
 use Rattle.std.proofs.Common.{◌≡◌, true, false, ◌⊎◌, ℤ, pos, ◌+ℤ◌, ◌*ℤ◌, neg_ℤ, sym, ap, ◌∙◌, inl, inr, arith}
-use borrow.Author.Differences.{ints}
+use Rattle.std.proofs.lemmas.Int.{ints}
 use Rattle.exact.specs.Plane.{Point}
 use Rattle.exact.proofs.Algebra.Signs.{Sign, ◌⊙◌, ◌by◌, weak, split, is_zero, strict_or_zero, clash, right_zero, cancel, cancel_zero, times_neg}
 use Rattle.exact.proofs.Geometry.Words.{W, orient, incircle, dist², Within, Site, Orient, Incircle, Dist², Left, RightOn, On, Apart, Same, InTriangle, Between, dist²_sign, signs, W_site}

@@ -1,8 +1,8 @@
 -- Triangles of a list with empty circles: a vertex in a closed one is a corner of it, and one with the same corners is the same.
 use Rattle.std.proofs.Common.{◌≡◌, ℕ, ◌<◌, true, false, eqb, ◌⊎◌, List, length, subst, inl, inr, arith}
-use borrow.Author.Differences.{ints}
+use Rattle.std.proofs.lemmas.Int.{ints}
 use Rattle.exact.specs.Plane.{Vertex, spot, Tri, all_apart, empty_circle}
-use Rattle.exact.proofs.Booleans.{either, eqb→, eqb_false→}
+use Rattle.std.proofs.lemmas.Bool.{cases_Bool, eqb-true, eqb-false}
 use Rattle.exact.proofs.Vertices.{site, same_number, Rot, rot₁, rot₂, rot₃}
 use Rattle.exact.proofs.Algebra.Signs.{Sign}
 use Rattle.exact.proofs.Geometry.Words.{orient, Same, Apart}
@@ -34,9 +34,9 @@ module _ (vs : List Vertex) (ones : (i : ℕ) → (spot vs i).w ≡ 1) where
 
   -- ---- triangles with the same corners: the smallest is first, and both turn to the left
   pub same_corners : (t u : Tri) → Triangle vs t → Triangle vs u → CornerOf t u.one → CornerOf t u.two → CornerOf t u.three → u ≡ t
-  same_corners t u g k p q r = elim (either (eqb u.two t.two)) [
-    | inl e ↦ let f = eqb→ u.two t.two e in let f₃ : u.three ≡ t.three = omega (arith, r, different, k.least_three) in λ i. record { one = first i; two = f i; three = f₃ i }
-    | inr e ↦ absurd (crossed (omega (arith, q, eqb_false→ u.two t.two e, k.least_two)) (omega (arith, q, r, different, eqb_false→ u.two t.two e, k.least_two, k.least_three)))
+  same_corners t u g k p q r = elim (cases_Bool (eqb u.two t.two)) [
+    | inl e ↦ let f = eqb-true u.two t.two e in let f₃ : u.three ≡ t.three = omega (arith, r, different, k.least_three) in λ i. record { one = first i; two = f i; three = f₃ i }
+    | inr e ↦ absurd (crossed (omega (arith, q, eqb-false u.two t.two e, k.least_two)) (omega (arith, q, r, different, eqb-false u.two t.two e, k.least_two, k.least_three)))
   ]
     where
       different : ¬ (u.two ≡ u.three)

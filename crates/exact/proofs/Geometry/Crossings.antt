@@ -1,10 +1,11 @@
 -- The ray straight down from a place: how often it crosses edges of a left-turning triangle that go to the right, and how often their reverses.
 -- The first is never less, it is more for what is strictly inside, and if it is more the place is in the triangle.
 use Rattle.std.proofs.Common.{◌≡◌, ℕ, ◌+◌, ◌<◌, ◌≤◌, Bool, true, false, not, ◌&&◌, ◌*ℤ◌, neg_ℤ, sym, refl, ap, ◌∙◌, arith}
-use lib.IntN.{*ℤ_comm}
-use borrow.Author.Differences.{ints}
+use Rattle.std.proofs.Math.IntN.{*ℤ_comm}
+use Rattle.std.proofs.lemmas.Int.{ints}
 use Rattle.exact.specs.Plane.{Point}
-use Rattle.exact.proofs.Booleans.{bit, bit_≤1, and3→, and3←, not→, not←}
+use Rattle.std.proofs.lemmas.Bool.{not-true, not_from_false}
+use Rattle.exact.proofs.Booleans.{bit, bit_≤1, and3→, and3←}
 use Rattle.exact.proofs.Algebra.Signs.{Sign, ◌by◌, weak, neg_right, cancel, left_factor}
 use Rattle.exact.proofs.Algebra.IntegerTests.{not_below?, not_below?→, not_below?←, below?→, below?←, not_below_mono}
 use Rattle.exact.proofs.Geometry.Words.{W, Δx, orient, Within, Site, Left, signs}
@@ -32,7 +33,7 @@ module _ (u v x : Point) where
   unfolding crossing
   crossing→ l =
       let t = and3→ (before? u x) (not (before? v x)) (over? u v x) (bit_one (before? u x && (not (before? v x) && over? u v x)) l) in
-      (not_below?→ (Δx u x) t.0, below?→ (Δx v x) (not→ (before? v x) t.1), not_below?→ (orient u v x) t.2)
+      (not_below?→ (Δx u x) t.0, below?→ (Δx v x) (not-true (before? v x) t.1), not_below?→ (orient u v x) t.2)
     where
       bit_one : (b : Bool) → 1 ≤ bit b → b ≡ true
       bit_one true l = refl
@@ -40,7 +41,7 @@ module _ (u v x : Point) where
 
   pub crossing← : Sign false (Δx u x) → Sign true (neg_ℤ (Δx v x)) → Sign false (orient u v x) → crossing ≡ 1
   unfolding crossing
-  crossing← h k l = ap bit (and3← (before? u x) (not (before? v x)) (over? u v x) (not_below?← (Δx u x) h) (not← (before? v x) (below?← (Δx v x) k)) (not_below?← (orient u v x) l))
+  crossing← h k l = ap bit (and3← (before? u x) (not (before? v x)) (over? u v x) (not_below?← (Δx u x) h) (not_from_false (before? v x) (below?← (Δx v x) k)) (not_below?← (orient u v x) l))
 
 -- ---- the three edges of a triangle, and their reverses
 unfoldable pub rightward : Point → Point → Point → Point → ℕ

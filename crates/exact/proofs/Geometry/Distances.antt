@@ -1,6 +1,6 @@
 -- Distances: what is no farther than its neighbours is no farther than what is in their cone or beyond them on a line, and the nearest is inside a circle.
 use Rattle.std.proofs.Common.{◌≡◌, true, false, [], ◌∷◌, ◌+ℤ◌, ◌-ℤ◌, neg_ℤ, refl, inl, inr, arith}
-use borrow.Author.Differences.{ints}
+use Rattle.std.proofs.lemmas.Int.{ints}
 use Rattle.exact.specs.Plane.{Point}
 use Rattle.exact.proofs.Algebra.Ring.{ring}
 use Rattle.exact.proofs.Algebra.Signs.{Sign, ◌by◌, split, cancel}

@@ -1,7 +1,8 @@
 -- A triangle of a list of vertices: what `a_triangle`, `in_tri`, `inside_tri` and `empty_circle` say by signs, and its turning corners.
 use Rattle.std.proofs.Common.{◌≡◌, ℕ, ◌<◌, Bool, true, false, not, ◌&&◌, ltb, ◌⊎◌, List, length, ℤ, neg_ℤ, sym, refl, ap, ◌∙◌, subst, inl, inr, arith}
 use Rattle.exact.specs.Plane.{Point, Vertex, vertex_at, spot, Tri, left_of, inside_circle, a_triangle, in_tri, inside_tri, empty_circle}
-use Rattle.exact.proofs.Booleans.{and_left, and_right, and←, not→, not←, ltb→, ltb←}
+use Rattle.std.proofs.lemmas.Bool.{and_from, not-true, not_from_false, ltb-true, lt-ltb}
+use Rattle.exact.proofs.Booleans.{and_left, and_right}
 use Rattle.exact.proofs.Lists.{every→, every←}
 use Rattle.exact.proofs.Vertices.{vertex_in, vertex_number, site, Turn, at_one, at_two, at_three, next, corner, Rot, rot₁, rot₂, rot₃}
 use Rattle.exact.proofs.Algebra.Signs.{Sign, ◌by◌, split_below, clash_zero}
@@ -33,19 +34,19 @@ module _ (vs : List Vertex) (t : Tri) where
       let a = ltb t.one t.two in let b = ltb t.one t.three in let c = ltb t.two (length vs) in let d = ltb t.three (length vs) in
       let h₁ = and_left ((a && b) && (c && d)) l h in let h₂ = and_left (a && b) (c && d) h₁ in let h₃ = and_right (a && b) (c && d) h₁ in
       record {
-        least_two = ltb→ t.one t.two (and_left a b h₂);
-        least_three = ltb→ t.one t.three (and_right a b h₂);
-        two_below = ltb→ t.two (length vs) (and_left c d h₃);
-        three_below = ltb→ t.three (length vs) (and_right c d h₃);
+        least_two = ltb-true t.one t.two (and_left a b h₂);
+        least_three = ltb-true t.one t.three (and_right a b h₂);
+        two_below = ltb-true t.two (length vs) (and_left c d h₃);
+        three_below = ltb-true t.three (length vs) (and_right c d h₃);
         turns_left = left→ (spot vs t.one) (spot vs t.two) (spot vs t.three) (and_right ((a && b) && (c && d)) l h);
       }
 
   pub a_triangle← : Triangle vs t → a_triangle vs t ≡ true
   a_triangle← g =
       let a = ltb t.one t.two in let b = ltb t.one t.three in let c = ltb t.two (length vs) in let d = ltb t.three (length vs) in
-      and← ((a && b) && (c && d)) (left_of (spot vs t.one) (spot vs t.two) (spot vs t.three))
-      (and← (a && b) (c && d) (and← a b (ltb← t.one t.two g.least_two) (ltb← t.one t.three g.least_three))
-      (and← c d (ltb← t.two (length vs) g.two_below) (ltb← t.three (length vs) g.three_below)))
+      and_from ((a && b) && (c && d)) (left_of (spot vs t.one) (spot vs t.two) (spot vs t.three))
+      (and_from (a && b) (c && d) (and_from a b (lt-ltb t.one t.two g.least_two) (lt-ltb t.one t.three g.least_three))
+      (and_from c d (lt-ltb t.two (length vs) g.two_below) (lt-ltb t.three (length vs) g.three_below)))
       (left← (spot vs t.one) (spot vs t.two) (spot vs t.three) g.turns_left)
 
   -- ---- a place in it
@@ -70,12 +71,12 @@ module _ (vs : List Vertex) (t : Tri) where
 
   pub empty_circle→ : empty_circle vs t ≡ true → (k : ℕ) → k < length vs → Sign false (neg_ℤ (incircle_of vs t (spot vs k)))
   empty_circle→ h k l =
-      not_inside_circle→ (spot vs t.one) (spot vs t.two) (spot vs t.three) (spot vs k) (not→ (in_its (vertex_at vs k)) (every→ (λ v. not (in_its v)) vs h (vertex_at vs k) (vertex_in vs k l)))
+      not_inside_circle→ (spot vs t.one) (spot vs t.two) (spot vs t.three) (spot vs k) (not-true (in_its (vertex_at vs k)) (every→ (λ v. not (in_its v)) vs h (vertex_at vs k) (vertex_in vs k l)))
 
   pub empty_circle← : ((k : ℕ) → k < length vs → Sign false (neg_ℤ (incircle_of vs t (spot vs k)))) → empty_circle vs t ≡ true
   empty_circle← h = every← (λ v. not (in_its v)) vs (λ v i.
       let r = vertex_number vs v i in
-      subst (λ (u : Vertex). not (in_its u) ≡ true) r.2 (not← (in_its (vertex_at vs r.0)) (not_inside_circle← (spot vs t.one) (spot vs t.two) (spot vs t.three) (spot vs r.0) (h r.0 r.1))))
+      subst (λ (u : Vertex). not (in_its u) ≡ true) r.2 (not_from_false (in_its (vertex_at vs r.0)) (not_inside_circle← (spot vs t.one) (spot vs t.two) (spot vs t.three) (spot vs r.0) (h r.0 r.1))))
 
   -- ---- from any corner
   pub rot_in : {s : Bool} (a b c : ℕ) → Rot t a b c → (x : Point) → InFace s x → Within s (spot vs a) (spot vs b) (spot vs c) x

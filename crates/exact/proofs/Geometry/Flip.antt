@@ -1,7 +1,7 @@
 -- Flipping: the edge a b of the triangles a b c and b a d becomes d c. And chords of a circle, which are the same with all four on it.
 use Rattle.std.proofs.Common.{◌≡◌, true, false, ◌⊎◌, ℤ, ◌+ℤ◌, ◌-ℤ◌, neg_ℤ, sym, ap, ◌∙◌, inl, inr, arith}
-use lib.IntN.{neg_ℤ-neg_ℤ}
-use borrow.Author.Differences.{ints}
+use Rattle.std.proofs.Math.IntN.{neg_ℤ-neg_ℤ}
+use Rattle.std.proofs.lemmas.Int.{ints}
 use Rattle.exact.proofs.Algebra.Signs.{Sign, ◌by◌, weak, split, zero_sign, left_factor}
 use Rattle.exact.proofs.Geometry.Words.{Site, Orient, Incircle, Dist², Volume, Left, Right, InTriangle, signs}
 use Rattle.exact.proofs.Geometry.Identities.Sides.{turn, swap, start_on, end_on, orders}

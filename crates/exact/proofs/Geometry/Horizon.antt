@@ -1,7 +1,7 @@
 -- Outside the hull: the outer edges that p sees, what a new face on an outer edge holds, and where p is in a face that has it.
 use Rattle.std.proofs.Common.{◌≡◌, true, false, ◌⊎◌, pos, ◌*ℤ◌, neg_ℤ, sym, ap, ◌∙◌, inl, inr, arith}
-use lib.IntN.{*ℤ_comm}
-use borrow.Author.Differences.{ints}
+use Rattle.std.proofs.Math.IntN.{*ℤ_comm}
+use Rattle.std.proofs.lemmas.Int.{ints}
 use Rattle.exact.proofs.Algebra.Signs.{Sign, ◌by◌, split, is_zero, product_zero, clash, clash_zero, right_zero, cancel, cancel_neg}
 use Rattle.exact.proofs.Geometry.Words.{Site, Orient, Dot, Left, Right, LeftOn, RightOn, On, Apart, Same, InTriangle, Inside, Between, signs}
 use Rattle.exact.proofs.Geometry.Identities.Sides.{turn, swap, orders, weights, three_terms, seen_edge}

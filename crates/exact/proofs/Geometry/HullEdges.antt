@@ -1,6 +1,6 @@
 -- Two edges that pass the vertical line through a place to the right, each with the other's ends on its left or on it: they begin at one place, or one begins strictly between the ends of the other.
 use Rattle.std.proofs.Common.{true, ◌⊎◌, inl, inr, arith}
-use borrow.Author.Differences.{ints}
+use Rattle.std.proofs.lemmas.Int.{ints}
 use Rattle.exact.specs.Plane.{Point}
 use Rattle.exact.proofs.Algebra.Signs.{Sign, weak, split}
 use Rattle.exact.proofs.Geometry.Words.{W, Δx, Site, LeftOn, Same, Between}

@@ -1,6 +1,6 @@
 -- What is strictly inside something that has its corners right of a line, or on it, is strictly right of it: inside a triangle, and inside the edge between two.
 use Rattle.std.proofs.Common.{true, false, ◌⊎◌, ◌*ℤ◌, neg_ℤ, sym, ap, inl, inr, arith}
-use borrow.Author.Differences.{ints}
+use Rattle.std.proofs.lemmas.Int.{ints}
 use Rattle.exact.proofs.Algebra.Signs.{Sign, ◌by◌, split, clash, clash_zero, cancel_neg}
 use Rattle.exact.proofs.Geometry.Words.{Site, Orient, Left, Right, RightOn, On, Apart, Inside, Between, signs}
 use Rattle.exact.proofs.Geometry.Identities.Sides.{turn, swap, weigh_line}

@@ -1,7 +1,8 @@
 -- The tests `joined` and `outer_edge`: of vertices on one line, neighbours with none on the segment between them; elsewhere the ends of an edge of a triangle.
 use Rattle.std.proofs.Common.{◌≡◌, ℕ, ◌<◌, Bool, true, false, not, ◌&&◌, eqb, ltb, ◌⊎◌, List, length, refl, ap, ◌∙◌, inl, inr}
 use Rattle.exact.specs.Plane.{or, pick, every, any, Vertex, spot, Tri, goes, on_a_line, on_segment, neighbours_on_line, joined, outer_edge, all_numbers}
-use Rattle.exact.proofs.Booleans.{either, and_left, and_right, and←, or→, or_left, or_right, not→, not←, eqb→, eqb_false→, eqb_false←, ltb←}
+use Rattle.std.proofs.lemmas.Bool.{cases_Bool, and_from, not-true, not_from_false, eqb-true, eqb-false, ne_eqb, lt-ltb}
+use Rattle.exact.proofs.Booleans.{and_left, and_right, or→, or_left, or_right}
 use Rattle.exact.proofs.Lists.{every→, every←, up_to→, up_to←}
 use Rattle.exact.proofs.Vertices.{Rot, rot₁, rot₂, rot₃}
 
@@ -28,7 +29,7 @@ module _ (vs : List Vertex) (a b : ℕ) where
 
   pub neighbours_on_line← : ¬ (a ≡ b) → ((c : ℕ) → c < length vs → ¬ (c ≡ a) → ¬ (c ≡ b) → on_segment (spot vs a) (spot vs b) (spot vs c) ≡ false) → neighbours_on_line vs a b ≡ true
   neighbours_on_line← ne none =
-      and← (not (eqb a b)) (every free? (all_numbers vs)) (not← (eqb a b) (eqb_false← a b ne)) (every← free? (all_numbers vs) (λ c k. free c (up_to→ (length vs) c k) (either (eqb c a)) (either (eqb c b))))
+      and_from (not (eqb a b)) (every free? (all_numbers vs)) (not_from_false (eqb a b) (ne_eqb a b ne)) (every← free? (all_numbers vs) (λ c k. free c (up_to→ (length vs) c k) (cases_Bool (eqb c a)) (cases_Bool (eqb c b))))
     where
       on? : ℕ → Bool
       on? c = on_segment (spot vs a) (spot vs b) (spot vs c)
@@ -36,17 +37,17 @@ module _ (vs : List Vertex) (a b : ℕ) where
       free : (c : ℕ) → c < length vs → (eqb c a ≡ true) ⊎ (eqb c a ≡ false) → (eqb c b ≡ true) ⊎ (eqb c b ≡ false) → or (or (eqb c a) (eqb c b)) (not (on_segment (spot vs a) (spot vs b) (spot vs c))) ≡ true
       free c l (inl e) f = or_left (or (eqb c a) (eqb c b)) (not (on? c)) (or_left (eqb c a) (eqb c b) e)
       free c l (inr e) (inl f) = or_left (or (eqb c a) (eqb c b)) (not (on? c)) (or_right (eqb c a) (eqb c b) f)
-      free c l (inr e) (inr f) = or_right (or (eqb c a) (eqb c b)) (not (on? c)) (not← (on? c) (none c l (eqb_false→ c a e) (eqb_false→ c b f)))
+      free c l (inr e) (inr f) = or_right (or (eqb c a) (eqb c b)) (not (on? c)) (not_from_false (on? c) (none c l (eqb-false c a e) (eqb-false c b f)))
 
   pub neighbours_different : neighbours_on_line vs a b ≡ true → ¬ (a ≡ b)
-  neighbours_different t = eqb_false→ a b (not→ (eqb a b) (and_left (not (eqb a b)) (every free? (all_numbers vs)) t))
+  neighbours_different t = eqb-false a b (not-true (eqb a b) (and_left (not (eqb a b)) (every free? (all_numbers vs)) t))
 
   pub neighbours_none_on : neighbours_on_line vs a b ≡ true → (c : ℕ) → c < length vs → ¬ (c ≡ a) → ¬ (c ≡ b) → on_segment (spot vs a) (spot vs b) (spot vs c) ≡ false
   neighbours_none_on t c l na nb =
       let on? = on_segment (spot vs a) (spot vs b) (spot vs c) in
       elim (or→ (or (eqb c a) (eqb c b)) (not on?) (every→ free? (all_numbers vs) (and_right (not (eqb a b)) (every free? (all_numbers vs)) t) c (up_to← (length vs) c l))) [
-        | inl e ↦ elim (or→ (eqb c a) (eqb c b) e) [ inl f ↦ absurd (na (eqb→ c a f)) | inr f ↦ absurd (nb (eqb→ c b f)) ]
-        | inr e ↦ not→ on? e
+        | inl e ↦ elim (or→ (eqb c a) (eqb c b) e) [ inl f ↦ absurd (na (eqb-true c a f)) | inr f ↦ absurd (nb (eqb-true c b f)) ]
+        | inr e ↦ not-true on? e
       ]
 
   module _ (ts : List Tri) where
@@ -58,7 +59,7 @@ module _ (vs : List Vertex) (a b : ℕ) where
     line_joined_is line = ap joined_if line
 
     pub line_joined← : on_a_line vs ≡ true → a < length vs → b < length vs → neighbours_on_line vs a b ≡ true → joined vs ts a b ≡ true
-    line_joined← line la lb n = line_joined_is line ∙ and← (ltb a (length vs) && ltb b (length vs)) (neighbours_on_line vs a b) (and← (ltb a (length vs)) (ltb b (length vs)) (ltb← a (length vs) la) (ltb← b (length vs) lb)) n
+    line_joined← line la lb n = line_joined_is line ∙ and_from (ltb a (length vs) && ltb b (length vs)) (neighbours_on_line vs a b) (and_from (ltb a (length vs)) (ltb b (length vs)) (lt-ltb a (length vs) la) (lt-ltb b (length vs) lb)) n
 
     pub line_outer_is : on_a_line vs ≡ true → outer_edge vs ts a b ≡ joined vs ts a b
     line_outer_is line = ap (λ (l : Bool). joined vs ts a b && pick l true (not (has_edge ts a b))) line ∙ and_true (joined vs ts a b)

@@ -1,8 +1,8 @@
 -- Sites in the order of a linear function, u · x + v · y: its three terms with `orient`, places at the level of a site, and K · x + y, which tells different sites apart.
 use Rattle.std.proofs.Common.{◌≡◌, ℕ, zero, suc, ◌+◌, ◌*◌, ◌<◌, ◌≤◌, true, false, eqb, ltb, List, [], ◌∷◌, length, ℤ, pos, ◌+ℤ◌, ◌-ℤ◌, ◌*ℤ◌, neg_ℤ, sym, refl, ap, ◌∙◌, ap₂, inl, inr, mul-le-mul_left, arith}
-use borrow.Author.Differences.{ints}
+use Rattle.std.proofs.lemmas.Int.{ints}
 use Rattle.exact.specs.Plane.{Point, Vertex, vertex_at, spot, all_apart}
-use Rattle.exact.proofs.Booleans.{either, and←, eqb←, ltb→, ltb_false→}
+use Rattle.std.proofs.lemmas.Bool.{cases_Bool, and_from, eq-eqb, ltb-true, ltb-false}
 use Rattle.exact.proofs.Vertices.{same_number}
 use Rattle.exact.proofs.Algebra.Integers.{neg_ℤ-*ℤ}
 use Rattle.exact.proofs.Algebra.Ring.{ring}
@@ -84,11 +84,11 @@ neg_higher u v a b h = omega (arith, ints, level_neg u v a.at, level_neg u v b.a
 
 -- ---- K · x + y, for K above both y: the same level is the same place
 same_digits : (K a b c d : ℕ) → b < K → d < K → K * a + b ≡ K * c + d → (a ≡ c) × (b ≡ d)
-same_digits K a b c d lb ld e = elim (either (ltb a c)) [
-  | inl x ↦ absurd (omega (arith, mul-le-mul_left K (ltb→ a c x)))
-  | inr x ↦ elim (either (ltb c a)) [
-    | inl y ↦ absurd (omega (arith, mul-le-mul_left K (ltb→ c a y)))
-    | inr y ↦ same (omega (arith, ltb_false→ a c x, ltb_false→ c a y))
+same_digits K a b c d lb ld e = elim (cases_Bool (ltb a c)) [
+  | inl x ↦ absurd (omega (arith, mul-le-mul_left K (ltb-true a c x)))
+  | inr x ↦ elim (cases_Bool (ltb c a)) [
+    | inl y ↦ absurd (omega (arith, mul-le-mul_left K (ltb-true c a y)))
+    | inr y ↦ same (omega (arith, ltb-false a c x, ltb-false c a y))
   ]
 ]
   where
@@ -113,4 +113,4 @@ pub levels_apart : (vs : List Vertex) → all_apart vs ≡ true → (K : ℕ) �
     (i j : ℕ) → i < length vs → j < length vs → level (pos K) (pos 1) (spot vs i) ≡ level (pos K) (pos 1) (spot vs j) → i ≡ j
 levels_apart vs apart K h i j li lj e =
     let r = level_same K (spot vs i) (spot vs j) (h i li) (h j lj) e in
-    same_number vs apart i j li lj (and← (eqb (spot vs i).x (spot vs j).x) (eqb (spot vs i).y (spot vs j).y) (eqb← (spot vs i).x (spot vs j).x r.0) (eqb← (spot vs i).y (spot vs j).y r.1))
+    same_number vs apart i j li lj (and_from (eqb (spot vs i).x (spot vs j).x) (eqb (spot vs i).y (spot vs j).y) (eq-eqb (spot vs i).x (spot vs j).x r.0) (eq-eqb (spot vs i).y (spot vs j).y r.1))

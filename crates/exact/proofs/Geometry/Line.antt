@@ -1,6 +1,6 @@
 -- Sites on one line: which of three is between, and the end v of a line, beyond which nothing is (no z with Between s z v, for its neighbour s).
 use Rattle.std.proofs.Common.{◌≡◌, true, false, ◌⊎◌, ℤ, pos, ◌+ℤ◌, ◌*ℤ◌, neg_ℤ, ap, ◌∙◌, inl, inr, arith}
-use borrow.Author.Differences.{ints}
+use Rattle.std.proofs.lemmas.Int.{ints}
 use Rattle.exact.proofs.Algebra.Signs.{Sign, ◌by◌, split, clash, right_zero, cancel_neg, cancel_zero}
 use Rattle.exact.proofs.Geometry.Words.{Site, Orient, Dot, Left, RightOn, On, Apart, Between, signs}
 use Rattle.exact.proofs.Geometry.Identities.Sides.{turn, swap, orders, weights}

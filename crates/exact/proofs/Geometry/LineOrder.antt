@@ -1,6 +1,6 @@
 -- Sites on one line in their order: how far each is along a → b, as an integer. What is between what is then plain order, for `omega`.
 use Rattle.std.proofs.Common.{◌≡◌, true, false, ◌⊎◌, [], ◌∷◌, ℤ, pos, ◌+ℤ◌, ◌-ℤ◌, ◌*ℤ◌, neg_ℤ, sym, refl, ap, ◌∙◌, inl, inr, arith}
-use borrow.Author.Differences.{ints}
+use Rattle.std.proofs.lemmas.Int.{ints}
 use Rattle.exact.proofs.Algebra.Ring.{ring}
 use Rattle.exact.proofs.Algebra.Signs.{Sign, ◌⊙◌, ◌by◌, split, split_below, clash_below, clash_zero, zero_sign, left_zero, right_zero, is_zero, cancel_neg, cancel_zero, times_neg, neg_neg}
 use Rattle.exact.proofs.Geometry.Words.{Site, Orient, Dot, Dist², Right, RightOn, On, Apart, Same, Between, signs}

@@ -1,6 +1,6 @@
 -- A site on a line has two sides: what is across it from the same site is not across it from each other.
 use Rattle.std.proofs.Common.{true, ◌⊎◌, ℤ, ◌-ℤ◌, inl, inr, arith}
-use borrow.Author.Differences.{ints}
+use Rattle.std.proofs.lemmas.Int.{ints}
 use Rattle.exact.proofs.Algebra.Signs.{Sign}
 use Rattle.exact.proofs.Geometry.Words.{Site, On, Apart, Between}
 use Rattle.exact.proofs.Geometry.LineOrder.{Along, between_order}

@@ -1,7 +1,8 @@
 -- Small moves: n · p + q in homogeneous coordinates is p moved a little towards q, the less the larger n. `orient` is linear in it, so what is strict stays strict for n past a bound.
 use Rattle.std.proofs.Common.{◌≡◌, ℕ, zero, suc, ◌+◌, ◌*◌, ◌<◌, ◌≤◌, Bool, true, false, [], ◌∷◌, ℤ, pos, negsuc, ◌+ℤ◌, ◌*ℤ◌, neg_ℤ, refl, ap, ◌∙◌, inl, inr, arith}
-use lib.IntN.{*ℤ-zero, +ℤ_idl}
-use borrow.Author.Differences.{ints, up, down}
+use Rattle.std.proofs.Math.IntN.{*ℤ-zero, +ℤ_idl}
+use borrow.Author.Differences.{up, down}
+use Rattle.std.proofs.lemmas.Int.{ints}
 use Rattle.exact.specs.Plane.{Point}
 use Rattle.exact.proofs.Algebra.Ring.{ring}
 use Rattle.exact.proofs.Algebra.Signs.{Sign, ◌⊙◌, ◌⊞◌, ◌by◌, natural_sign, split_below, clash_below}

@@ -1,7 +1,7 @@
 -- The power of a place x to a left-turning triangle, incircle / orient: it grows where an edge is crossed, and where it does not, the two circles are one.
 use Rattle.std.proofs.Common.{◌≡◌, Bool, true, false, [], ◌∷◌, ℤ, pos, ◌+ℤ◌, ◌-ℤ◌, ◌*ℤ◌, neg_ℤ, refl, ◌∙◌, ap₂, arith}
-use lib.IntN.{*ℤ_comm}
-use borrow.Author.Differences.{ints}
+use Rattle.std.proofs.Math.IntN.{*ℤ_comm}
+use Rattle.std.proofs.lemmas.Int.{ints}
 use Rattle.exact.specs.Plane.{Point}
 use Rattle.exact.proofs.Algebra.Signs.{Sign, ◌⊙◌, ◌⊞◌, ◌by◌, right_zero, cancel, cancel_zero, neg_neg}
 use Rattle.exact.proofs.Geometry.Words.{W, orient, incircle, Site, Orient, Incircle, Left}

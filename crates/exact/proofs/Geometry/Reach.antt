@@ -1,7 +1,8 @@
 -- Small moves and a list of triangles: moved little enough, a place is in no closed triangle that it was not in, and strictly inside those that it was strictly inside.
 use Rattle.std.proofs.Common.{◌≡◌, ℕ, ◌+◌, ◌≤◌, true, false, List, [], ◌∷◌, sym, subst, inl, inr, arith}
 use Rattle.exact.specs.Plane.{Point, Vertex, spot, Tri, in_tri, inside_tri}
-use Rattle.exact.proofs.Booleans.{is_false, true_false}
+use Rattle.std.proofs.lemmas.Bool.{false_from_ne_true}
+use Rattle.exact.proofs.Booleans.{true_false}
 use Rattle.exact.proofs.Lists.{In}
 use Rattle.exact.proofs.Geometry.Faces.{InFace, in_tri→, in_tri←, inside_tri→, inside_tri←}
 use Rattle.exact.proofs.Geometry.Moves.{toward, reach, inside_stays, closed_back}
@@ -26,7 +27,7 @@ module _ (vs : List Vertex) (ts : List Tri) (p q : Point) (n : ℕ) (far : reach
 
   -- by the tests
   pub in_tri_back : in_tri vs t p ≡ false → in_tri vs t (toward n p q) ≡ false
-  in_tri_back e = is_false (in_tri vs t (toward n p q)) (λ h. true_false (in_tri vs t p) (in_tri← vs t p (none_new (in_tri→ vs t (toward n p q) h))) e)
+  in_tri_back e = false_from_ne_true (in_tri vs t (toward n p q)) (λ h. true_false (in_tri vs t p) (in_tri← vs t p (none_new (in_tri→ vs t (toward n p q) h))) e)
 
   pub inside_tri_stays : inside_tri vs t p ≡ true → inside_tri vs t (toward n p q) ≡ true
   inside_tri_stays e = inside_tri← vs t (toward n p q) (none_lost (inside_tri→ vs t p e))

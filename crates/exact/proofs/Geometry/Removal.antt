@@ -1,7 +1,7 @@
 -- A vertex v taken out: its spokes v a, v b, v c one after the other to the left. Which spoke can be flipped to a c, and what is left at the end.
 use Rattle.std.proofs.Common.{true, false, ◌⊎◌, ◌+ℤ◌, ◌-ℤ◌, ◌*ℤ◌, neg_ℤ, sym, ap, ◌∙◌, inl, inr, arith}
-use lib.IntN.{*ℤ_comm}
-use borrow.Author.Differences.{ints}
+use Rattle.std.proofs.Math.IntN.{*ℤ_comm}
+use Rattle.std.proofs.lemmas.Int.{ints}
 use Rattle.exact.proofs.Algebra.Signs.{Sign, ◌by◌, split, cancel, cancel_neg, left_factor}
 use Rattle.exact.proofs.Geometry.Words.{Site, Orient, Dist², Dot, Left, Right, LeftOn, RightOn, On, InTriangle, Between, signs}
 use Rattle.exact.proofs.Geometry.Identities.Sides.{turn, swap, start_on, end_on, orders, weights, weigh_line, three_terms, bend_line}

@@ -1,6 +1,6 @@
 -- What p sees, strictly on its left, as far as it needs no mesh: two edges in a row, two edges on one line, and a triangle beside a line.
 use Rattle.std.proofs.Common.{◌⊎◌, sym, ◌∙◌, inl, inr, arith}
-use borrow.Author.Differences.{ints}
+use Rattle.std.proofs.lemmas.Int.{ints}
 use Rattle.exact.proofs.Algebra.Signs.{split, split_below, is_zero, clash, clash_below, clash_zero}
 use Rattle.exact.proofs.Geometry.Words.{Site, Orient, Left, Right, LeftOn, RightOn, On, Apart, Same, Between}
 use Rattle.exact.proofs.Geometry.Identities.Sides.{turn, swap, orders, weights}

@@ -1,8 +1,9 @@
 -- The test `on_segment`: on the segment and no end of it is strictly between the ends.
 use Rattle.std.proofs.Common.{◌≡◌, ℕ, ◌*◌, ◌≤◌, Bool, true, false, ◌&&◌, leb, [], ◌∷◌, pos, ◌+ℤ◌, ◌-ℤ◌, ◌*ℤ◌, neg_ℤ, sym, refl, ap, ◌∙◌, ap₂, inl, inr, arith}
-use borrow.Author.Differences.{ints}
+use Rattle.std.proofs.lemmas.Int.{ints}
 use Rattle.exact.specs.Plane.{in_line, between, on_segment}
-use Rattle.exact.proofs.Booleans.{and_left, and_right, and←, and3→, and3←, or→, or_left, or_right, leb→, leb←}
+use Rattle.std.proofs.lemmas.Bool.{and_from, leb-true, le-leb}
+use Rattle.exact.proofs.Booleans.{and_left, and_right, and3→, and3←, or→, or_left, or_right}
 use Rattle.exact.proofs.Algebra.Ring.{ring}
 use Rattle.exact.proofs.Algebra.Signs.{Sign, ◌⊙◌, ◌by◌, split, clash, cancel_neg}
 use Rattle.exact.proofs.Geometry.Words.{X, Y, Δx, Δy, Site, Orient, Dist², Dot, Apart, Between, signs}
@@ -18,8 +19,8 @@ Opposite a b z = Sign false (neg_ℤ ((pos a -ℤ pos z) *ℤ (pos b -ℤ pos z)
 
 between→ : (a b z : ℕ) → between a b z ≡ true → Opposite a b z
 between→ a b z e = elim (or→ (leb a z && leb z b) (leb b z && leb z a) e) [
-  | inl h ↦ rising (leb→ a z (and_left (leb a z) (leb z b) h)) (leb→ z b (and_right (leb a z) (leb z b) h))
-  | inr h ↦ falling (leb→ b z (and_left (leb b z) (leb z a) h)) (leb→ z a (and_right (leb b z) (leb z a) h))
+  | inl h ↦ rising (leb-true a z (and_left (leb a z) (leb z b) h)) (leb-true z b (and_right (leb a z) (leb z b) h))
+  | inr h ↦ falling (leb-true b z (and_left (leb b z) (leb z a) h)) (leb-true z a (and_right (leb b z) (leb z a) h))
 ]
   where
     rising : a ≤ z → z ≤ b → Opposite a b z
@@ -44,10 +45,10 @@ between← a b z h = elim (split (pos a -ℤ pos z)) [
 ]
   where
     falling : b ≤ z → z ≤ a → between a b z ≡ true
-    falling l m = or_right (leb a z && leb z b) (leb b z && leb z a) (and← (leb b z) (leb z a) (leb← b z l) (leb← z a m))
+    falling l m = or_right (leb a z && leb z b) (leb b z && leb z a) (and_from (leb b z) (leb z a) (le-leb b z l) (le-leb z a m))
 
     rising : a ≤ z → z ≤ b → between a b z ≡ true
-    rising l m = or_left (leb a z && leb z b) (leb b z && leb z a) (and← (leb a z) (leb z b) (leb← a z l) (leb← z b m))
+    rising l m = or_left (leb a z && leb z b) (leb b z && leb z a) (and_from (leb a z) (leb z b) (le-leb a z l) (le-leb z b m))
 
 -- ---- both coordinates, by the product
 dot_x : (z a b : Site) → Dist² z a *ℤ (Δx z.at a.at *ℤ Δx z.at b.at) ≡ Dot z a b *ℤ (Δx z.at a.at *ℤ Δx z.at a.at) -ℤ Δx z.at a.at *ℤ Δy z.at a.at *ℤ Orient a b z

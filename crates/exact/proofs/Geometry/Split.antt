@@ -1,7 +1,7 @@
 -- Splitting: a face a b c at p strictly inside, an edge a b at p strictly between its ends.
 use Rattle.std.proofs.Common.{true, ◌⊎◌, ◌+ℤ◌, ◌*ℤ◌, neg_ℤ, sym, inl, inr, arith}
-use lib.IntN.{neg_ℤ-neg_ℤ}
-use borrow.Author.Differences.{ints}
+use Rattle.std.proofs.Math.IntN.{neg_ℤ-neg_ℤ}
+use Rattle.std.proofs.lemmas.Int.{ints}
 use Rattle.exact.proofs.Algebra.Signs.{Sign, ◌by◌, weak, split, zero_sign}
 use Rattle.exact.proofs.Geometry.Words.{Site, Orient, Left, Right, InTriangle, Inside, Between, signs}
 use Rattle.exact.proofs.Geometry.Identities.Sides.{turn, swap, orders, weights, three_directions}

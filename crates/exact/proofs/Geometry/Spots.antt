@@ -1,8 +1,9 @@
 -- The same place: two sites at distance 0 have the same coordinates, and the test `same_spot` says so.
 use Rattle.std.proofs.Common.{◌≡◌, true, false, eqb, ◌⊎◌, ℤ, pos, ◌+ℤ◌, ◌*ℤ◌, sym, ◌∙◌, inl, inr, arith}
-use borrow.Author.Differences.{ints}
+use Rattle.std.proofs.lemmas.Int.{ints}
 use Rattle.exact.specs.Plane.{same_spot}
-use Rattle.exact.proofs.Booleans.{and_left, and_right, and←, eqb→, eqb←, is_false, true_false}
+use Rattle.std.proofs.lemmas.Bool.{and_from, eqb-true, eq-eqb, false_from_ne_true}
+use Rattle.exact.proofs.Booleans.{and_left, and_right, true_false}
 use Rattle.exact.proofs.Algebra.Signs.{strict_or_zero, clash_zero, square_sign, square_zero}
 use Rattle.exact.proofs.Geometry.Words.{X, Y, Δx, Δy, Site, Dist², Apart, Same, dist²_sign}
 use Rattle.exact.proofs.Geometry.Identities.Dots.{dist²_Δ, Δx_site, Δy_site}
@@ -48,13 +49,13 @@ module _ (a b : Site) where
   pub same_spot→ : same_spot a.at b.at ≡ true → Same a b
   same_spot→ e =
       let x? = eqb a.at.x b.at.x in let y? = eqb a.at.y b.at.y in
-      same_of (eqb→ a.at.x b.at.x (and_left x? y? e)) (eqb→ a.at.y b.at.y (and_right x? y? e))
+      same_of (eqb-true a.at.x b.at.x (and_left x? y? e)) (eqb-true a.at.y b.at.y (and_right x? y? e))
 
   pub same_spot← : Same a b → same_spot a.at b.at ≡ true
-  same_spot← e = and← (eqb a.at.x b.at.x) (eqb a.at.y b.at.y) (eqb← a.at.x b.at.x (same_x e)) (eqb← a.at.y b.at.y (same_y e))
+  same_spot← e = and_from (eqb a.at.x b.at.x) (eqb a.at.y b.at.y) (eq-eqb a.at.x b.at.x (same_x e)) (eq-eqb a.at.y b.at.y (same_y e))
 
   pub not_same_spot→ : same_spot a.at b.at ≡ false → Apart a b
   not_same_spot→ e = elim same_or_apart [ inl s ↦ absurd (true_false (same_spot a.at b.at) (same_spot← s) e) | inr h ↦ h ]
 
   pub not_same_spot← : Apart a b → same_spot a.at b.at ≡ false
-  not_same_spot← h = is_false (same_spot a.at b.at) (λ e. clash_zero h (same_spot→ e))
+  not_same_spot← h = false_from_ne_true (same_spot a.at b.at) (λ e. clash_zero h (same_spot→ e))

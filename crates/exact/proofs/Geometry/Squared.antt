@@ -1,9 +1,9 @@
 -- The squared distance as a natural number: it is the integer of the geometry, and the test which of two is farther is the order of the numbers.
 use Rattle.std.proofs.Common.{◌≡◌, ℕ, ◌*◌, ◌<◌, ◌≤◌, true, not, ℤ, pos, negsuc, ◌+ℤ◌, ◌-ℤ◌, ◌*ℤ◌, nat_abs, refl, ap, ◌∙◌, ap₂, mul-le-mul, arith}
-use borrow.Author.Differences.{ints}
+use Rattle.std.proofs.lemmas.Int.{ints}
 use Rattle.exact.specs.Plane.{Point, minus, square, above_0}
 use Rattle.exact.specs.Distance.{gap, squared}
-use Rattle.exact.proofs.Booleans.{not→, not←}
+use Rattle.std.proofs.lemmas.Bool.{not-true, not_from_false}
 use Rattle.exact.proofs.Algebra.Integers.{value_minus}
 use Rattle.exact.proofs.Algebra.Tests.{not_above→, not_above←}
 use Rattle.exact.proofs.Geometry.Words.{X, Y, Δx, Δy, dist², Site, Dist²}
@@ -32,13 +32,13 @@ module _ (p a b : Site) where
   unfolding dist²
   no_farther← h =
       let farther = minus (square p.at a.at) (square p.at b.at) in
-      not← (above_0 farther) (not_above← farther (omega (arith, ints, value_minus (square p.at a.at) (square p.at b.at), dist²_squared p a, dist²_squared p b)))
+      not_from_false (above_0 farther) (not_above← farther (omega (arith, ints, value_minus (square p.at a.at) (square p.at b.at), dist²_squared p a, dist²_squared p b)))
 
   pub no_farther→ : not (above_0 (minus (square p.at a.at) (square p.at b.at))) ≡ true → squared p.at a.at ≤ squared p.at b.at
   unfolding dist²
   no_farther→ e =
       let farther = minus (square p.at a.at) (square p.at b.at) in
-      omega (arith, ints, not_above→ farther (not→ (above_0 farther) e), value_minus (square p.at a.at) (square p.at b.at), dist²_squared p a, dist²_squared p b)
+      omega (arith, ints, not_above→ farther (not-true (above_0 farther) e), value_minus (square p.at a.at) (square p.at b.at), dist²_squared p a, dist²_squared p b)
 
 -- ---- how large it is, for coordinates below n
 gap_below : (n a b : ℕ) → a < n → b < n → gap a b ≤ n

@@ -1,6 +1,6 @@
 -- Places swept from left to right: Δx u p is at least 0 if u is not right of p by its x. Edges that pass the level of p, the triangle over them, and two hull edges at one level.
 use Rattle.std.proofs.Common.{◌≡◌, true, false, ◌⊎◌, [], ◌∷◌, ℤ, pos, ◌+ℤ◌, ◌-ℤ◌, ◌*ℤ◌, neg_ℤ, refl, ap, ◌∙◌, ap₂, inl, inr, arith}
-use borrow.Author.Differences.{ints}
+use Rattle.std.proofs.lemmas.Int.{ints}
 use Rattle.exact.specs.Plane.{Point}
 use Rattle.exact.proofs.Algebra.Ring.{ring}
 use Rattle.exact.proofs.Algebra.Signs.{Sign, ◌⊙◌, ◌⊞◌, ◌by◌, weak, split, is_zero, clash_zero, square_sign, left_zero, right_zero, cancel, cancel_zero}

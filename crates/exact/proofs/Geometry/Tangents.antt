@@ -1,8 +1,8 @@
 -- Outside the hull: the two tangents from p. Outer edges have everything on their right.
 -- s → v and u → s are seen from p, which is strictly left of them; v → w and t → u are not.
 use Rattle.std.proofs.Common.{◌≡◌, true, false, ℤ, pos, ◌*ℤ◌, neg_ℤ, sym, ap, ◌∙◌, inl, inr, arith}
-use lib.IntN.{neg_ℤ-neg_ℤ, *ℤ_comm}
-use borrow.Author.Differences.{ints}
+use Rattle.std.proofs.Math.IntN.{neg_ℤ-neg_ℤ, *ℤ_comm}
+use Rattle.std.proofs.lemmas.Int.{ints}
 use Rattle.exact.proofs.Algebra.Signs.{Sign, ◌⊙◌, ◌by◌, split, is_zero, clash, left_zero, neg_left, cancel, cancel_neg, cancel_zero}
 use Rattle.exact.proofs.Geometry.Words.{Site, Orient, Dot, Left, Right, RightOn, On, Apart, Between, signs}
 use Rattle.exact.proofs.Geometry.Identities.Sides.{turn, swap, orders, three_terms}

@@ -1,7 +1,7 @@
 -- The words of the geometry: integers of points that stay shut, points with w = 1, and what is said of them by signs.
 -- orient p q r is above 0 if r is left of p → q; incircle p q r s if s is inside the circle of the left-turning p, q, r; dist² is the squared distance; dot o p q is the product (p − o) · (q − o).
 use Rattle.std.proofs.Common.{◌≡◌, ◌≤◌, Bool, true, false, ℤ, pos, ◌+ℤ◌, ◌*ℤ◌, neg_ℤ, ap, ◌∙◌, arith}
-use borrow.Author.Differences.{ints}
+use Rattle.std.proofs.lemmas.Int.{ints}
 use Rattle.exact.specs.Plane.{Point, plus, times, across, along, side, circle, square}
 use Rattle.exact.proofs.Algebra.Integers.{value}
 use Rattle.exact.proofs.Algebra.Signs.{Sign}

@@ -1,8 +1,8 @@
 -- All vertices are in triangles, if they are not on one line; and how many triangles there are: each vertex has a triangle that rises and one that falls, but on the hull one of them is missing, and at the two ends both.
 use Rattle.std.proofs.Common.{◌≡◌, ℕ, ◌+◌, ◌*◌, ◌<◌, Bool, true, false, not, ◌&&◌, ◌⊎◌, List, length, refl, ◌∙◌, inl, inr, true≢false, arith}
-use mathlib.Core.Bool.{false≢true}
+use Rattle.std.proofs.lemmas.Bool.{false≢true, cases_Bool}
 use Rattle.exact.specs.Plane.{pick, every, any, those, Vertex, Tri, goes, joined, outer_edge, on_a_line, Tiles, Delaunay, no_twice, all_numbers}
-use Rattle.exact.proofs.Booleans.{bit, either, or_left, and_left}
+use Rattle.exact.proofs.Booleans.{bit, or_left, and_left}
 use Rattle.exact.proofs.Lists.{every←, any→, any←, up_to←, up_to→, up_to_length, count, those_count}
 use Rattle.exact.proofs.Vertices.{rot_next, rot_goes}
 use Rattle.exact.proofs.Geometry.Faces.{rot_below}
@@ -52,7 +52,7 @@ module _ (vs : List Vertex) (ts : List Tri) (T : ProperTiling vs ts) (nt : no_tw
       (joined_is vs i g ts off ∙ or_left (has_edge ts i g) (has_edge ts g i) (any← (λ t. goes t i g) ts t w.here (rot_goes t i g w.low w.turned)))
 
   all_joined : (i : ℕ) → i < length vs → any (joined vs ts i) (all_numbers vs) ≡ true
-  all_joined i l = elim (either (has_rising? vs up ts i)) [
+  all_joined i l = elim (cases_Bool (has_rising? vs up ts i)) [
     | inl e ↦ by_rising i (has_rising→ vs up ts i e)
     | inr e ↦
         let o = another vs off i in

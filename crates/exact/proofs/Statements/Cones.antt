@@ -1,6 +1,6 @@
 -- Two triangles a b c and a g h at one corner: where b is to the cone of g and h, and a place strictly inside both.
 use Rattle.std.proofs.Common.{ℕ, ◌+◌, ◌≤◌, true, ◌*ℤ◌, neg_ℤ, sym, ap, ◌∙◌, arith}
-use borrow.Author.Differences.{ints}
+use Rattle.std.proofs.lemmas.Int.{ints}
 use Rattle.exact.specs.Plane.{Point}
 use Rattle.exact.proofs.Algebra.Signs.{Sign, ◌⊙◌, ◌by◌, weak, clash_below, clash_zero, zero_sign, left_zero, right_zero, cancel}
 use Rattle.exact.proofs.Geometry.Words.{Within, Site, Orient, Left, Right, LeftOn, On, InTriangle, signs}

@@ -1,7 +1,8 @@
 -- Counting: parts that exclude each other, a number below n, triangles by a number that each has, and several counts at once.
 use Rattle.std.proofs.Common.{◌≡◌, ℕ, zero, suc, ◌+◌, ◌*◌, ◌<◌, Bool, true, false, not, ◌&&◌, eqb, List, [], ◌∷◌, length, sym, refl, ap, ◌∙◌, subst, ap₂, inl, inr, arith}
 use Rattle.exact.specs.Plane.{or, any, Tri, up_to, no_twice, same_tri}
-use Rattle.exact.proofs.Booleans.{bit, either, is_false, true_false, and_left, and_right, not→, eqb→, eqb_false→, eqb_false←}
+use Rattle.std.proofs.lemmas.Bool.{cases_Bool, false_from_ne_true, not-true, eqb-true, eqb-false, ne_eqb}
+use Rattle.exact.proofs.Booleans.{bit, true_false, and_left, and_right}
 use Rattle.exact.proofs.Lists.{In, up_to→, count, count_none}
 use Rattle.exact.proofs.Sums.{sum_same, count_end, count_up_to, count_by}
 use Rattle.exact.proofs.Vertices.{one_of←}
@@ -25,23 +26,23 @@ count_or f g (x ∷ l) h = omega (arith, bit_or (f x) (g x) (h x (inl refl)), co
 pub count_number : (n k : ℕ) → k < n → count (eqb k) (up_to n) ≡ 1
 unfolding up_to count
 count_number zero k l = absurd (omega arith)
-count_number (suc n) k l = count_end (eqb k) (up_to n) n ∙ elim (either (eqb k n)) [
-  | inl e ↦ omega (arith, ap bit e, count_none (eqb k) (up_to n) (λ i m. eqb_false← k i (λ p. omega (arith, up_to→ n i m, eqb→ k n e))))
-  | inr e ↦ omega (arith, ap bit e, count_number n k (omega (arith, eqb_false→ k n e)))
+count_number (suc n) k l = count_end (eqb k) (up_to n) n ∙ elim (cases_Bool (eqb k n)) [
+  | inl e ↦ omega (arith, ap bit e, count_none (eqb k) (up_to n) (λ i m. ne_eqb k i (λ p. omega (arith, up_to→ n i m, eqb-true k n e))))
+  | inr e ↦ omega (arith, ap bit e, count_number n k (omega (arith, eqb-false k n e)))
 ]
 
 -- at most one triangle of a list without repeats
 count_any : (f : Tri → Bool) (ts : List Tri) → no_twice ts ≡ true → ((t u : Tri) → In t ts → In u ts → f t ≡ true → f u ≡ true → t ≡ u) → count f ts ≡ bit (any f ts)
 unfolding count any no_twice
 count_any f [] nt once = refl
-count_any f (t ∷ ts) nt once = elim (either (f t)) [
+count_any f (t ∷ ts) nt once = elim (cases_Bool (f t)) [
   | inl e ↦ ap₂ (λ (b : Bool) (n : ℕ). bit b + n) e (count_none f ts (other e)) ∙ sym (ap (λ (b : Bool). bit (or b (any f ts))) e)
   | inr e ↦ omega (arith, ap bit e, ap (λ (b : Bool). bit (or b (any f ts))) e, count_any f ts (and_right (not (any (same_tri t) ts)) (no_twice ts) nt) (λ u s i j. once u s (inr i) (inr j)))
 ]
   where
     other : f t ≡ true → (u : Tri) → In u ts → f u ≡ false
-    other e u i = is_false (f u) (λ p. true_false (any (same_tri t) ts)
-        (one_of← ts t (subst (λ (s : Tri). In s ts) (sym (once t u (inl refl) (inr i) e p)) i)) (not→ (any (same_tri t) ts) (and_left (not (any (same_tri t) ts)) (no_twice ts) nt)))
+    other e u i = false_from_ne_true (f u) (λ p. true_false (any (same_tri t) ts)
+        (one_of← ts t (subst (λ (s : Tri). In s ts) (sym (once t u (inl refl) (inr i) e p)) i)) (not-true (any (same_tri t) ts) (and_left (not (any (same_tri t) ts)) (no_twice ts) nt)))
 
 -- triangles that have different numbers below n: as many as numbers that one of them has
 pub count_numbers : (f : Tri → Bool) (number : Tri → ℕ) (n : ℕ) (ts : List Tri) → no_twice ts ≡ true → ((t : Tri) → In t ts → f t ≡ true → number t < n) →
@@ -55,7 +56,7 @@ count_numbers f number n ts nt below once =
     same : (i : ℕ) (t u : Tri) → In t ts → In u ts → f t && eqb i (number t) ≡ true → f u && eqb i (number u) ≡ true → t ≡ u
     same i t u it iu p q =
         once t u it iu (and_left (f t) (eqb i (number t)) p) (and_left (f u) (eqb i (number u)) q)
-        (sym (eqb→ i (number t) (and_right (f t) (eqb i (number t)) p)) ∙ eqb→ i (number u) (and_right (f u) (eqb i (number u)) q))
+        (sym (eqb-true i (number t) (and_right (f t) (eqb i (number t)) p)) ∙ eqb-true i (number u) (and_right (f u) (eqb i (number u)) q))
 
 -- ---- each is of one kind; each is of two of four kinds
 pub count_kinds : {A : Type 0} (f g : A → Bool) (l : List A) → ((a : A) → In a l → bit (f a) + bit (g a) ≡ 1) → count f l + count g l ≡ length l

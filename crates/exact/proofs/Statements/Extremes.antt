@@ -1,7 +1,7 @@
 -- At the highest and the lowest vertex no triangle rises, also upside down; at every other one some triangle does, the one way or the other.
 use Rattle.std.proofs.Common.{◌≡◌, ℕ, zero, suc, ◌+◌, ◌<◌, Bool, true, false, not, ◌&&◌, eqb, ◌⊎◌, List, length, pos, ◌+ℤ◌, neg_ℤ, sym, refl, ap, ◌∙◌, subst, ap₂, inl, inr, arith}
 use Rattle.exact.specs.Plane.{or, Vertex, Tri, on_a_line, all_numbers}
-use Rattle.exact.proofs.Booleans.{either, is_false, eqb→, eqb_false→}
+use Rattle.std.proofs.lemmas.Bool.{cases_Bool, false_from_ne_true, eqb-true, eqb-false}
 use Rattle.exact.proofs.Lists.{up_to→, count}
 use Rattle.exact.proofs.Vertices.{site, rot_next}
 use Rattle.exact.proofs.Algebra.Signs.{◌by◌, right_zero, cancel_zero}
@@ -19,12 +19,12 @@ use Rattle.exact.proofs.Statements.Counting.{count_same, count_or, count_number}
 
 module _ (vs : List Vertex) (ts : List Tri) (T : ProperTiling vs ts) (up : Heights vs) where
   pub highest_none : (m : ℕ) → ((i : ℕ) → i < length vs → ¬ (i ≡ m) → Above vs up m i) → has_rising? vs up ts m ≡ false
-  highest_none m high = is_false (has_rising? vs up ts m) (λ y.
+  highest_none m high = false_from_ne_true (has_rising? vs up ts m) (λ y.
       let w = has_rising→ vs up ts m y in let g = w.high in
       not_above_both vs up g m w.above (high g (rot_below vs w.tri g w.low m (rot_next w.tri m g w.low w.turned) (T.triangle w.tri w.here)) (above_different vs up g m w.above)))
 
   pub lowest_none : (m : ℕ) → ((i : ℕ) → i < length vs → ¬ (i ≡ m) → Above vs up i m) → has_rising? vs up ts m ≡ false
-  lowest_none m low = is_false (has_rising? vs up ts m) (λ y.
+  lowest_none m low = false_from_ne_true (has_rising? vs up ts m) (λ y.
       let w = has_rising→ vs up ts m y in let h = w.low in let t = w.tri in
       not_above_both vs up m h w.below (low h (rot_below vs t h m w.high (rot_next t w.high h m (rot_next t m w.high h w.turned)) (T.triangle t w.here)) (λ e. above_different vs up m h w.below (sym e))))
 
@@ -84,17 +84,17 @@ module _ (vs : List Vertex) (ts : List Tri) (T : ProperTiling vs ts) (off : on_a
 
   none_is : (t b : ℕ) → t < length vs → b < length vs → ((i : ℕ) → i < length vs → ¬ (i ≡ t) → Above vs up t i) → ((i : ℕ) → i < length vs → ¬ (i ≡ b) → Above vs up i b) →
       (i : ℕ) → i < length vs → none? i ≡ or (eqb t i) (eqb b i)
-  none_is t b lt lb high low i l = go (either (eqb t i)) (either (eqb b i))
+  none_is t b lt lb high low i l = go (cases_Bool (eqb t i)) (cases_Bool (eqb b i))
     where
       go : (eqb t i ≡ true) ⊎ (eqb t i ≡ false) → (eqb b i ≡ true) ⊎ (eqb b i ≡ false) → none? i ≡ or (eqb t i) (eqb b i)
       go (inl e) f =
-          let h : (k : ℕ) → k < length vs → ¬ (k ≡ i) → Above vs up i k = subst (λ (j : ℕ). (k : ℕ) → k < length vs → ¬ (k ≡ j) → Above vs up j k) (eqb→ t i e) high in
+          let h : (k : ℕ) → k < length vs → ¬ (k ≡ i) → Above vs up i k = subst (λ (j : ℕ). (k : ℕ) → k < length vs → ¬ (k ≡ j) → Above vs up j k) (eqb-true t i e) high in
           none_both (has_rising? vs up ts i) (has_rising? vs down ts i) (highest_none vs ts T up i h) (lowest_none vs ts T down i (λ k lk n. above_down vs up i k (h k lk n))) ∙ sym (ap (λ (x : Bool). or x (eqb b i)) e)
       go (inr e) (inl f) =
-          let h : (k : ℕ) → k < length vs → ¬ (k ≡ i) → Above vs up k i = subst (λ (j : ℕ). (k : ℕ) → k < length vs → ¬ (k ≡ j) → Above vs up k j) (eqb→ b i f) low in
+          let h : (k : ℕ) → k < length vs → ¬ (k ≡ i) → Above vs up k i = subst (λ (j : ℕ). (k : ℕ) → k < length vs → ¬ (k ≡ j) → Above vs up k j) (eqb-true b i f) low in
           none_both (has_rising? vs up ts i) (has_rising? vs down ts i) (lowest_none vs ts T up i h) (highest_none vs ts T down i (λ k lk n. above_down vs up k i (h k lk n))) ∙ sym (ap₂ or e f)
       go (inr e) (inr f) =
-          none_one (has_rising? vs up ts i) (has_rising? vs down ts i) (between_rises i t b l lt lb (high i l (λ k. eqb_false→ t i e (sym k))) (low i l (λ k. eqb_false→ b i f (sym k)))) ∙ sym (ap₂ or e f)
+          none_one (has_rising? vs up ts i) (has_rising? vs down ts i) (between_rises i t b l lt lb (high i l (λ k. eqb-false t i e (sym k))) (low i l (λ k. eqb-false b i f (sym k)))) ∙ sym (ap₂ or e f)
 
   pub count_none_rises : count none? (all_numbers vs) ≡ 2
   count_none_rises = go (length vs) refl
@@ -104,7 +104,7 @@ module _ (vs : List Vertex) (ts : List Tri) (T : ProperTiling vs ts) (off : on_a
           let o = another vs off t in
           let ne : ¬ (t ≡ b) = λ e. not_above_both vs up t o.0 (high o.0 o.1 o.2) (subst (λ (j : ℕ). Above vs up o.0 j) (sym e) (low o.0 o.1 (λ k. o.2 (k ∙ sym e)))) in
           count_same none? (λ i. or (eqb t i) (eqb b i)) (all_numbers vs) (λ i m. none_is t b lt lb high low i (up_to→ (length vs) i m))
-          ∙ count_or (eqb t) (eqb b) (all_numbers vs) (λ i m p q. ne (eqb→ t i p ∙ sym (eqb→ b i q)))
+          ∙ count_or (eqb t) (eqb b) (all_numbers vs) (λ i m p q. ne (eqb-true t i p ∙ sym (eqb-true b i q)))
           ∙ ap₂ ◌+◌ (count_number (length vs) t lt) (count_number (length vs) b lb)
 
       go : (n : ℕ) → length vs ≡ n → count none? (all_numbers vs) ≡ 2

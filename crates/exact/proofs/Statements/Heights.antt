@@ -1,8 +1,8 @@
 -- Vertices by a height of their own, u · x + v · y, different for each; the same upside down; the highest; and that there is such a height.
 use Rattle.std.proofs.Common.{◌≡◌, ℕ, zero, suc, ◌<◌, ◌≤◌, true, false, eqb, ◌⊎◌, List, length, ℤ, pos, ◌-ℤ◌, neg_ℤ, sym, ◌∙◌, subst, inl, inr, arith}
-use borrow.Author.Differences.{ints}
+use Rattle.std.proofs.lemmas.Int.{ints}
 use Rattle.exact.specs.Plane.{Vertex, spot, all_apart}
-use Rattle.exact.proofs.Booleans.{either, eqb→, eqb_false→}
+use Rattle.std.proofs.lemmas.Bool.{cases_Bool, eqb-true, eqb-false}
 use Rattle.exact.proofs.Algebra.Signs.{Sign, split_below, strict_or_zero}
 use Rattle.exact.proofs.Geometry.Levels.{level, level_neg, bound_y, levels_apart}
 
@@ -62,17 +62,17 @@ module _ (vs : List Vertex) (up : Heights vs) where
         | inl h ↦ (
           r.0,
           omega (arith, r.1),
-          λ i k ne. elim (either (eqb i (suc n))) [
-            | inl e ↦ subst (λ (j : ℕ). Above r.0 j) (sym (eqb→ i (suc n) e)) h
-            | inr e ↦ r.2 i (omega (arith, eqb_false→ i (suc n) e)) ne
+          λ i k ne. elim (cases_Bool (eqb i (suc n))) [
+            | inl e ↦ subst (λ (j : ℕ). Above r.0 j) (sym (eqb-true i (suc n) e)) h
+            | inr e ↦ r.2 i (omega (arith, eqb-false i (suc n) e)) ne
           ],
         )
         | inr h ↦ (
           suc n,
           omega arith,
-          λ i k ne. elim (either (eqb i r.0)) [
-            | inl e ↦ subst (λ (j : ℕ). Above (suc n) j) (sym (eqb→ i r.0 e)) h
-            | inr e ↦ above_trans (suc n) r.0 i h (r.2 i (omega arith) (eqb_false→ i r.0 e))
+          λ i k ne. elim (cases_Bool (eqb i r.0)) [
+            | inl e ↦ subst (λ (j : ℕ). Above (suc n) j) (sym (eqb-true i r.0 e)) h
+            | inr e ↦ above_trans (suc n) r.0 i h (r.2 i (omega arith) (eqb-false i r.0 e))
           ],
         )
       ]

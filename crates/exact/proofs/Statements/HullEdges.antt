@@ -1,7 +1,8 @@
 -- Edges of the hull: if nothing is left of the line from m to k, an edge of the outer face begins at m; and an edge of the outer face has all vertices on one side.
 use Rattle.std.proofs.Common.{◌≡◌, ℕ, ◌<◌, true, false, not, ◌&&◌, List, length, ◌+ℤ◌, neg_ℤ, sym, ap, ◌∙◌, ap₂, inl, inr}
 use Rattle.exact.specs.Plane.{or, Vertex, spot, Tri, goes, outer_edge, on_a_line, all_numbers}
-use Rattle.exact.proofs.Booleans.{is_false, true_false, or→, or_right, and_left, and_right, and←, not→, not←}
+use Rattle.std.proofs.lemmas.Bool.{false_from_ne_true, and_from, not-true, not_from_false}
+use Rattle.exact.proofs.Booleans.{true_false, or→, or_right, and_left, and_right}
 use Rattle.exact.proofs.Lists.{In, any→, any←, up_to←}
 use Rattle.exact.proofs.Vertices.{site, Rot, rot_next, rot_goes, goes_rot}
 use Rattle.exact.proofs.Algebra.Signs.{Sign, ◌⊙◌, ◌by◌, split_below, strict_or_zero, is_zero, clash, clash_zero, right_zero, cancel}
@@ -57,9 +58,9 @@ module _ (vs : List Vertex) (ts : List Tri) (T : ProperTiling vs ts) (off : on_a
       outer : on_hull vs ts m ≡ true
       outer =
           any← (outer_edge vs ts m) (all_numbers vs) h (up_to← (length vs) h h_below)
-          (outer_is vs m h ts off ∙ and← (or (has_edge ts m h) (has_edge ts h m)) (not (has_edge ts m h))
+          (outer_is vs m h ts off ∙ and_from (or (has_edge ts m h) (has_edge ts h m)) (not (has_edge ts m h))
           (or_right (has_edge ts m h) (has_edge ts h m) (any← (λ t. goes t h m) ts t it (rot_goes t h m g (rot_next t g h m (rot_next t m g h ρ)))))
-          (not← (has_edge ts m h) (is_false (has_edge ts m h) (λ y. no_twin (any→ (λ t. goes t m h) ts y)))))
+          (not_from_false (has_edge ts m h) (false_from_ne_true (has_edge ts m h) (λ y. no_twin (any→ (λ t. goes t m h) ts y)))))
 
     pub hull_from : on_hull vs ts m ≡ true
     hull_from = let κ = cone_at vs ts T m k m_below k_below in outer κ.tri κ.here κ.b κ.c κ.corners κ.after_b κ.before_c
@@ -81,7 +82,7 @@ module _ (vs : List Vertex) (ts : List Tri) (T : ProperTiling vs ts) (off : on_a
       outer = sym (outer_is vs m j ts off) ∙ r.2
 
       none : has_edge ts m j ≡ false
-      none = not→ (has_edge ts m j) (and_right (or (has_edge ts m j) (has_edge ts j m)) (not (has_edge ts m j)) outer)
+      none = not-true (has_edge ts m j) (and_right (or (has_edge ts m j) (has_edge ts j m)) (not (has_edge ts m j)) outer)
 
       by_twin : (t : Tri) × In t ts × (goes t j m ≡ true) → (j : ℕ) × (j < length vs) × ¬ (j ≡ m) × ((z : ℕ) → z < length vs → LeftOn (P j) (P m) (P z))
       by_twin b =

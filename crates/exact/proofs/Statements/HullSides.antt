@@ -1,7 +1,8 @@
 -- The upper and the lower hull: where no triangle rises at m, m is on the hull; and at a vertex of the hull none rises, or none does upside down.
 use Rattle.std.proofs.Common.{◌≡◌, ℕ, zero, suc, ◌<◌, true, false, eqb, ◌⊎◌, List, length, ◌+ℤ◌, ◌-ℤ◌, ◌*ℤ◌, neg_ℤ, sym, ap, ◌∙◌, subst, inl, inr, arith}
 use Rattle.exact.specs.Plane.{Vertex, Tri, on_a_line}
-use Rattle.exact.proofs.Booleans.{either, is_false, true_false, eqb→, eqb_false→}
+use Rattle.std.proofs.lemmas.Bool.{cases_Bool, false_from_ne_true, eqb-true, eqb-false}
+use Rattle.exact.proofs.Booleans.{true_false}
 use Rattle.exact.proofs.Vertices.{site, rot_next}
 use Rattle.exact.proofs.Algebra.Signs.{Sign, split, clash, clash_zero, weak, zero_sign_neg}
 use Rattle.exact.proofs.Geometry.Words.{Site, Orient, Left, LeftOn, RightOn, signs}
@@ -16,7 +17,7 @@ use Rattle.exact.proofs.Statements.MiddleCorners.{has_rising?, has_rising→, ha
 use Rattle.exact.proofs.Statements.HullEdges.{hull_from, hull_to}
 
 below_suc : {A : ℕ → Type 0} (n z : ℕ) → z < suc n → ((k : ℕ) → k < n → A k) → A n → A z
-below_suc {A} n z l f a = elim (either (eqb z n)) [ inl e ↦ subst A (sym (eqb→ z n e)) a | inr e ↦ f z (omega (arith, eqb_false→ z n e)) ]
+below_suc {A} n z l f a = elim (cases_Bool (eqb z n)) [ inl e ↦ subst A (sym (eqb-true z n e)) a | inr e ↦ f z (omega (arith, eqb-false z n e)) ]
 
 module _ (vs : List Vertex) (ts : List Tri) (T : ProperTiling vs ts) (off : on_a_line vs ≡ false) (up : Heights vs) where
   abbrev P : ℕ → Site
@@ -71,9 +72,9 @@ module _ (vs : List Vertex) (ts : List Tri) (T : ProperTiling vs ts) (off : on_a
       h = f.0
 
       right : (z : ℕ) → z < length vs → RightOn (P m) (P h) (P z)
-      right z l = elim (either (eqb z m)) [
-        | inl e ↦ zero_sign_neg (Orient (P m) (P h) (P z)) (ap (λ (i : ℕ). Orient (P m) (P h) (P i)) (eqb→ z m e) ∙ start_on (P m) (P h))
-        | inr e ↦ elim (above_either vs up z m l below (eqb_false→ z m e)) [
+      right z l = elim (cases_Bool (eqb z m)) [
+        | inl e ↦ zero_sign_neg (Orient (P m) (P h) (P z)) (ap (λ (i : ℕ). Orient (P m) (P h) (P i)) (eqb-true z m e) ∙ start_on (P m) (P h))
+        | inr e ↦ elim (above_either vs up z m l below (eqb-false z m e)) [
           | inl a ↦ f.3 z l a
           | inr a ↦ elim (split (Orient (P m) (P h) (P z))) [ inl s ↦ absurd (none h z f.1 l f.2 a s) | inr s ↦ s ]
         ]
@@ -93,6 +94,6 @@ module _ (vs : List Vertex) (ts : List Tri) (T : ProperTiling vs ts) (off : on_a
   hull_none_rises m l h =
       let e = hull_to vs ts T off m h in let j = e.0 in
       elim (above_either vs up j m e.1 l e.2) [
-        | inl a ↦ inl (is_false (has_rising? vs up ts m) (λ y. none_rises vs ts T off up m j e.3 a (has_rising→ vs up ts m y)))
-        | inr a ↦ inr (is_false (has_rising? vs (upside_down vs up) ts m) (λ y. none_rises vs ts T off (upside_down vs up) m j e.3 (above_down vs up m j a) (has_rising→ vs (upside_down vs up) ts m y)))
+        | inl a ↦ inl (false_from_ne_true (has_rising? vs up ts m) (λ y. none_rises vs ts T off up m j e.3 a (has_rising→ vs up ts m y)))
+        | inr a ↦ inr (false_from_ne_true (has_rising? vs (upside_down vs up) ts m) (λ y. none_rises vs ts T off (upside_down vs up) m j e.3 (above_down vs up m j a) (has_rising→ vs (upside_down vs up) ts m y)))
       ]

@@ -1,8 +1,8 @@
 -- Locally right is right everywhere: a vertex inside the circle of a triangle stays inside while one walks towards it, but where one arrives it is a corner.
 use Rattle.std.proofs.Common.{◌≡◌, ℕ, ◌<◌, Bool, true, false, not, List, length, neg_ℤ, sym, ◌∙◌}
-use mathlib.Core.Bool.{false≢true}
+use Rattle.std.proofs.lemmas.Bool.{false≢true, not-true}
 use Rattle.exact.specs.Plane.{or, every, Vertex, spot, Tri, goes, inside_circle, empty_circle, Tiles}
-use Rattle.exact.proofs.Booleans.{or_left, or_right, or_false→, not→}
+use Rattle.exact.proofs.Booleans.{or_left, or_right, or_false→}
 use Rattle.exact.proofs.Lists.{In, every→, every←}
 use Rattle.exact.proofs.Vertices.{site, Turn, at_one, at_two, at_three, next, corner, rot, goes→}
 use Rattle.exact.proofs.Algebra.Signs.{Sign, zero_sign_neg}
@@ -24,7 +24,7 @@ has_neighbours vs ts T t it k i l r = neighbour vs ts T t it (corner k t) (corne
 -- ---- what `locally` says of a triangle u across the edge k of t
 none_inside : (p a b c : Bool) → p ≡ true → or (not p) (not (or a (or b c))) ≡ true → (a ≡ false) × (b ≡ false) × (c ≡ false)
 none_inside true a b c h e =
-    let z = or_false→ a (or b c) (not→ (or a (or b c)) e) in let y = or_false→ b c z.1 in
+    let z = or_false→ a (or b c) (not-true (or a (or b c)) e) in let y = or_false→ b c z.1 in
     (z.0, y.0, y.1)
 none_inside false a b c h e = absurd (false≢true h)
 

@@ -1,8 +1,8 @@
 -- Each triangle rises or falls, by the height of its corners; so there are as many that rise as vertices at which one rises.
 use Rattle.std.proofs.Common.{◌≡◌, ℕ, ◌+◌, ◌<◌, Bool, true, false, not, ◌&&◌, eqb, List, length, ◌-ℤ◌, sym, refl, ap, ◌∙◌, subst, inl, inr, arith}
-use mathlib.Core.Bool.{false≢true}
+use Rattle.std.proofs.lemmas.Bool.{false≢true, false_from_ne_true, and_from, eqb-true, eq-eqb}
 use Rattle.exact.specs.Plane.{or, pick, any, Vertex, spot, Tri, no_twice, all_numbers}
-use Rattle.exact.proofs.Booleans.{bit, is_false, and_left, and_right, and←, eqb→, eqb←}
+use Rattle.exact.proofs.Booleans.{bit, and_left, and_right}
 use Rattle.exact.proofs.Lists.{In, any→, any←, count}
 use Rattle.exact.proofs.Vertices.{Rot, rot₁, rot₂, rot₃}
 use Rattle.exact.proofs.Algebra.IntegerTests.{above?, above?→, above?←}
@@ -43,7 +43,7 @@ module _ (vs : List Vertex) (up : Heights vs) where
 
   not_higher?← : (a b : ℕ) → Above vs up b a → higher? a b ≡ false
   unfolding higher?
-  not_higher?← a b h = is_false (above? (height vs up a -ℤ height vs up b)) (λ e. not_above_both vs up a b (above?→ (height vs up a -ℤ height vs up b) e) h)
+  not_higher?← a b h = false_from_ne_true (above? (height vs up a -ℤ height vs up b)) (λ e. not_above_both vs up a b (above?→ (height vs up a -ℤ height vs up b) e) h)
 
   pub rises? : Tri → Bool
   rises? t = majority (higher? t.two t.one) (higher? t.one t.three) (higher? t.three t.two)
@@ -79,13 +79,13 @@ module _ (vs : List Vertex) (up : Heights vs) where
   unfolding has_rising?
   has_rising→ ts m h =
       let r = any→ (λ t. rises? t && eqb m (middle_corner t)) ts h in let t = r.0 in
-      subst (λ (k : ℕ). RisingAt vs ts up k) (sym (eqb→ m (middle_corner t) (and_right (rises? t) (eqb m (middle_corner t)) r.2))) (rises→ ts t r.1 (and_left (rises? t) (eqb m (middle_corner t)) r.2)).0
+      subst (λ (k : ℕ). RisingAt vs ts up k) (sym (eqb-true m (middle_corner t) (and_right (rises? t) (eqb m (middle_corner t)) r.2))) (rises→ ts t r.1 (and_left (rises? t) (eqb m (middle_corner t)) r.2)).0
 
   pub has_rising← : (ts : List Tri) (m : ℕ) → RisingAt vs ts up m → has_rising? ts m ≡ true
   unfolding has_rising?
   has_rising← ts m w =
       let t = w.tri in let r = rises← t m w.high w.low w.turned w.above w.below in
-      any← (λ t. rises? t && eqb m (middle_corner t)) ts t w.here (and← (rises? t) (eqb m (middle_corner t)) r.0 (eqb← m (middle_corner t) (sym r.1)))
+      any← (λ t. rises? t && eqb m (middle_corner t)) ts t w.here (and_from (rises? t) (eqb m (middle_corner t)) r.0 (eq-eqb m (middle_corner t) (sym r.1)))
 
 pub count_rising : (vs : List Vertex) (ts : List Tri) → ProperTiling vs ts → no_twice ts ≡ true → (up : Heights vs) → count (rises? vs up) ts ≡ count (has_rising? vs up ts) (all_numbers vs)
 unfolding has_rising?

@@ -1,8 +1,10 @@
 -- If no vertex that is joined to i is nearer to a place than i is, no vertex is: each other one is in the cone of a triangle at i and not inside its circle, or beyond others on one line.
 use Rattle.std.proofs.Common.{◌≡◌, ℕ, zero, suc, ◌<◌, true, false, not, List, length, pos, ◌-ℤ◌, sym, ap, subst, inl, inr, arith}
-use borrow.Author.Differences.{ints, up}
+use borrow.Author.Differences.{up}
+use Rattle.std.proofs.lemmas.Int.{ints}
 use Rattle.exact.specs.Plane.{or, every, Point, Vertex, spot, Tri, joined, on_segment, on_a_line, Delaunay, empty_circle, above_0, minus, square, all_numbers}
-use Rattle.exact.proofs.Booleans.{either, is_false, true_false, or→, not→, not←}
+use Rattle.std.proofs.lemmas.Bool.{cases_Bool, false_from_ne_true, not-true, not_from_false}
+use Rattle.exact.proofs.Booleans.{true_false, or→}
 use Rattle.exact.proofs.Lists.{every→, every←, up_to←}
 use Rattle.exact.proofs.Vertices.{site, spot_whole, vertex_number}
 use Rattle.exact.proofs.Algebra.Integers.{value_minus}
@@ -21,11 +23,11 @@ use Rattle.exact.proofs.Statements.ConeAt.{cone_at, cone_left, cone_empty, b_bel
 module _ (x v y : Point) where
   no_nearer→ : not (above_0 (minus (square x v) (square x y))) ≡ true → NoNearer x v y
   unfolding dist²
-  no_nearer→ h = let d = minus (square x v) (square x y) in omega (arith, ints, not_above→ d (not→ (above_0 d) h), value_minus (square x v) (square x y))
+  no_nearer→ h = let d = minus (square x v) (square x y) in omega (arith, ints, not_above→ d (not-true (above_0 d) h), value_minus (square x v) (square x y))
 
   no_nearer← : NoNearer x v y → not (above_0 (minus (square x v) (square x y))) ≡ true
   unfolding dist²
-  no_nearer← h = let d = minus (square x v) (square x y) in not← (above_0 d) (not_above← d (omega (arith, ints, value_minus (square x v) (square x y))))
+  no_nearer← h = let d = minus (square x v) (square x y) in not_from_false (above_0 d) (not_above← d (omega (arith, ints, value_minus (square x v) (square x y))))
 
 module _ (vs : List Vertex) (ts : List Tri) (p : Point) (i : ℕ) where
   -- k is no nearer to p than i is
@@ -36,7 +38,7 @@ module _ (vs : List Vertex) (ts : List Tri) (p : Point) (i : ℕ) where
   joined_far h k l e =
       let far? = not (above_0 (minus (square p (spot vs i)) (square p (spot vs k)))) in
       elim (or→ (not (joined vs ts i k)) far? (every→ (λ k. or (not (joined vs ts i k)) (not (above_0 (minus (square p (spot vs i)) (square p (spot vs k)))))) (all_numbers vs) h k (up_to← (length vs) k l))) [
-        | inl f ↦ absurd (true_false (joined vs ts i k) e (not→ (joined vs ts i k) f))
+        | inl f ↦ absurd (true_false (joined vs ts i k) e (not-true (joined vs ts i k) f))
         | inr f ↦ no_nearer→ p (spot vs i) (spot vs k) f
       ]
 
@@ -68,7 +70,7 @@ module _ (vs : List Vertex) (ts : List Tri) (p : Point) (i : ℕ) where
           | inl h ↦ h
           | inr h ↦
               let ne : ¬ (i ≡ z) = λ e. let same : dist² p (spot vs i) ≡ dist² p (spot vs z) = ap (λ (k : ℕ). dist² p (spot vs k)) e in omega (arith, ints) in
-              near z z_below (line_joined← vs i z ts line i_below z_below (neighbours_on_line← vs i z ne (λ k l ki kz. is_false (on_segment (spot vs i) (spot vs z) (spot vs k)) (λ on. clash_below _ (beyond k l ki kz on) h))))
+              near z z_below (line_joined← vs i z ts line i_below z_below (neighbours_on_line← vs i z ne (λ k l ki kz. false_from_ne_true (on_segment (spot vs i) (spot vs z) (spot vs k)) (λ on. clash_below _ (beyond k l ki kz on) h))))
         ]
 
       -- by the distance from i
@@ -89,7 +91,7 @@ none_nearer vs ts p i pl d i_below h = every← (λ v. not (above_0 (minus (squa
     near = joined_far vs ts p i h
 
     far : (z : ℕ) → z < length vs → NoNearer p (spot vs i) (spot vs z)
-    far z l = elim (either (on_a_line vs)) [
+    far z l = elim (cases_Bool (on_a_line vs)) [
       | inl e ↦ by_line vs ts p i i_below near e pl (suc (up (dist² (spot vs i) (spot vs z)))) z l (omega (arith, ints))
       | inr e ↦ let empty = (d.1 e).1 in by_cone vs ts p i i_below near e (empty_tiling vs ts pl (d.1 e).0 empty) empty z l
     ]

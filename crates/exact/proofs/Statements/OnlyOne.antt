@@ -2,7 +2,8 @@
 -- The middle of a triangle is in one of the other triangulation; the two circles are one, so the corners are the same.
 use Rattle.std.proofs.Common.{◌≡◌, ℕ, ◌<◌, Bool, true, false, ◌&&◌, eqb, List, [], length, pos, neg_ℤ, sym, refl, ap, ◌∙◌, subst, inl, inr, arith}
 use Rattle.exact.specs.Plane.{or, every, Vertex, spot, Tri, circle, below_0, all_numbers, on_a_line, Delaunay, empty_circle}
-use Rattle.exact.proofs.Booleans.{or→, and←, and3←, eqb←}
+use Rattle.std.proofs.lemmas.Bool.{and_from, eq-eqb}
+use Rattle.exact.proofs.Booleans.{or→, and3←}
 use Rattle.exact.proofs.Lists.{In, every→, every←, any←, up_to←}
 use Rattle.exact.proofs.Vertices.{site, Rot, rot₁, rot₂, rot₃}
 use Rattle.exact.proofs.Algebra.Signs.{◌⊞◌, ◌by◌, clash_zero}
@@ -52,7 +53,7 @@ module _ (vs : List Vertex) (ones : (i : ℕ) → (spot vs i).w ≡ 1) where
   has_tri← : (us : List Tri) (t u : Tri) → In u us → u ≡ t → has_tri us t ≡ true
   has_tri← us t u i e =
       any← (λ u. eqb u.one t.one && (eqb u.two t.two && eqb u.three t.three)) us u i
-      (and3← (eqb u.one t.one) (eqb u.two t.two) (eqb u.three t.three) (eqb← u.one t.one (ap (λ (s : Tri). s.one) e)) (eqb← u.two t.two (ap (λ (s : Tri). s.two) e)) (eqb← u.three t.three (ap (λ (s : Tri). s.three) e)))
+      (and3← (eqb u.one t.one) (eqb u.two t.two) (eqb u.three t.three) (eq-eqb u.one t.one (ap (λ (s : Tri). s.one) e)) (eq-eqb u.two t.two (ap (λ (s : Tri). s.two) e)) (eq-eqb u.three t.three (ap (λ (s : Tri). s.three) e)))
 
   -- the corners of u are on the circle of t, so they are those of t
   there : (us : List Tri) (t : Tri) → Triangle vs t → no_more_on vs t ≡ true → Meets us t → has_tri us t ≡ true
@@ -95,4 +96,4 @@ only_one vs ts us h dt du n = go (on_a_line vs) refl
     go false e =
         let et = (dt.1 e).1 in let eu = (du.1 e).1 in
         let T = empty_tiling vs ts h (dt.1 e).0 et in let U = empty_tiling vs us h (du.1 e).0 eu in
-        and← (every (has_tri us) ts) (every (has_tri ts) us) (every← (has_tri us) ts (in_other vs ts us T et U eu n)) (every← (has_tri ts) us (in_first vs ts us T et U eu n))
+        and_from (every (has_tri us) ts) (every (has_tri ts) us) (every← (has_tri us) ts (in_other vs ts us T et U eu n)) (every← (has_tri ts) us (in_first vs ts us T et U eu n))

@@ -1,7 +1,8 @@
 -- What `Tiles` says by signs, where vertices are in triangles at corners alone: because it is asked, or because circles are empty.
 use Rattle.std.proofs.Common.{◌≡◌, ℕ, ◌<◌, ◌≤◌, true, false, not, eqb, List, length, sym, subst, inl, inr}
 use Rattle.exact.specs.Plane.{or, every, those, Point, Vertex, spot, Tri, a_triangle, in_tri, inside_tri, empty_circle, Tiles, all_numbers}
-use Rattle.exact.proofs.Booleans.{true_false, or→, not→, eqb→, leb→, leb←}
+use Rattle.std.proofs.lemmas.Bool.{not-true, eqb-true, leb-true, le-leb}
+use Rattle.exact.proofs.Booleans.{true_false, or→}
 use Rattle.exact.proofs.Lists.{In, every→, any→, those_once, up_to←}
 use Rattle.exact.proofs.Vertices.{site, spot_whole, Rot, rot₁, rot₂, rot₃}
 use Rattle.exact.proofs.Algebra.Signs.{Sign}
@@ -15,8 +16,8 @@ use Rattle.exact.proofs.Statements.Words.{Plain, corners_only}
 -- ---- corners by their numbers
 pub corner→ : (t : Tri) (i : ℕ) → or (eqb i t.one) (or (eqb i t.two) (eqb i t.three)) ≡ true → CornerOf t i
 corner→ t i e = elim (or→ (eqb i t.one) (or (eqb i t.two) (eqb i t.three)) e) [
-  | inl f ↦ inl (eqb→ i t.one f)
-  | inr r ↦ elim (or→ (eqb i t.two) (eqb i t.three) r) [ inl f ↦ inr (inl (eqb→ i t.two f)) | inr f ↦ inr (inr (eqb→ i t.three f)) ]
+  | inl f ↦ inl (eqb-true i t.one f)
+  | inr r ↦ elim (or→ (eqb i t.two) (eqb i t.three) r) [ inl f ↦ inr (inl (eqb-true i t.two f)) | inr f ↦ inr (inr (eqb-true i t.three f)) ]
 ]
 
 pub corner_rot : (t : Tri) (i : ℕ) → CornerOf t i → (b c : ℕ) × Rot t i b c
@@ -50,8 +51,8 @@ module _ (vs : List Vertex) (ts : List Tri) (pl : Plain vs) (tl : Tiles vs ts) w
     ones = ones;
     same = same_site vs ones pl.0;
     triangle = triangle;
-    cover = λ x l h. let r = any→ (λ t. in_tri vs t x) ts (tl.2 x (leb← 1 x.w l) (in_hull← vs x h)) in (r.0, r.1, in_tri→ vs r.0 x r.2);
-    once = λ x l t u i j p q. those_once (λ t. inside_tri vs t x) ts (leb→ (length (those (λ t. inside_tri vs t x) ts)) 1 (tl.3 x (leb← 1 x.w l))) t u i j (inside_tri← vs t x p) (inside_tri← vs u x q);
+    cover = λ x l h. let r = any→ (λ t. in_tri vs t x) ts (tl.2 x (le-leb 1 x.w l) (in_hull← vs x h)) in (r.0, r.1, in_tri→ vs r.0 x r.2);
+    once = λ x l t u i j p q. those_once (λ t. inside_tri vs t x) ts (leb-true (length (those (λ t. inside_tri vs t x) ts)) 1 (tl.3 x (le-leb 1 x.w l))) t u i j (inside_tri← vs t x p) (inside_tri← vs u x q);
     corners = corners;
   }
 
@@ -59,7 +60,7 @@ module _ (vs : List Vertex) (ts : List Tri) (pl : Plain vs) (tl : Tiles vs ts) w
   corners_tiling h = tiling_with (λ t i k l f. elim (or→ (or (eqb k t.one) (or (eqb k t.two) (eqb k t.three))) (not (in_tri vs t (spot vs k)))
       (every→ (λ i. or (or (eqb i t.one) (or (eqb i t.two) (eqb i t.three))) (not (in_tri vs t (spot vs i)))) (all_numbers vs) (every→ (corners_only vs) ts h t i) k (up_to← (length vs) k l))) [
         | inl e ↦ corner_rot t k (corner→ t k e)
-        | inr e ↦ absurd (true_false (in_tri vs t (spot vs k)) (in_tri← vs t (spot vs k) f) (not→ (in_tri vs t (spot vs k)) e))
+        | inr e ↦ absurd (true_false (in_tri vs t (spot vs k)) (in_tri← vs t (spot vs k) f) (not-true (in_tri vs t (spot vs k)) e))
       ])
 
   -- what is in a closed triangle and not inside its circle is a corner

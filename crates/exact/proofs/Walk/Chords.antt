@@ -1,6 +1,6 @@
 -- Chords of a circle: b, a, d turn left and z is on their circle. What is right of one of the edges a → d and d → b is right of a → b, by which the triangle was entered.
 use Rattle.std.proofs.Common.{◌≡◌, pos, ◌*ℤ◌, neg_ℤ, sym, ap, ◌∙◌, inl, inr}
-use lib.IntN.{neg_ℤ-neg_ℤ}
+use Rattle.std.proofs.Math.IntN.{neg_ℤ-neg_ℤ}
 use Rattle.exact.proofs.Algebra.Signs.{◌⊙◌, ◌by◌, split, clash, clash_below}
 use Rattle.exact.proofs.Geometry.Words.{Site, Orient, Incircle, Dist², Left, LeftOn, Right, RightOn, Apart, signs}
 use Rattle.exact.proofs.Geometry.Identities.Sides.{swap}

@@ -1,10 +1,11 @@
 -- The measure of a walk towards a place x, at an edge e that x is strictly right of: how many triangles have more power than that of e, then how many vertices on its circle are strictly right of e.
 -- It is below (faces + 1) · (vertices + 1), and crossing e lowers it, whichever edge of the triangle across is left by.
 use Rattle.std.proofs.Common.{◌≡◌, ℕ, suc, ◌+◌, ◌*◌, ◌<◌, ◌≤◌, Bool, true, false, ◌&&◌, ◌⊎◌, List, length, ℤ, pos, ◌-ℤ◌, ◌*ℤ◌, neg_ℤ, sym, ap, ◌∙◌, subst, ap₂, inl, inr, mul-le-mul_right, arith}
-use lib.IntN.{*ℤ_comm}
-use borrow.Author.Differences.{ints}
+use Rattle.std.proofs.Math.IntN.{*ℤ_comm}
+use Rattle.std.proofs.lemmas.Int.{ints}
 use Rattle.exact.specs.Plane.{Point}
-use Rattle.exact.proofs.Booleans.{is_false, and_left, and_right, and←}
+use Rattle.std.proofs.lemmas.Bool.{false_from_ne_true, and_from}
+use Rattle.exact.proofs.Booleans.{and_left, and_right}
 use Rattle.exact.proofs.Lists.{In, count, count_≤length, count_mono, count_strict}
 use Rattle.exact.proofs.Algebra.Signs.{Sign, ◌⊙◌, ◌by◌, weak, split, clash_below, clash_zero, cancel}
 use Rattle.exact.proofs.Algebra.IntegerTests.{above?, above?→, above?←, zero?, zero?→, zero?←}
@@ -95,7 +96,7 @@ module _ {E : Type 0} {from : E → Site} {next : E → E} {Inner : E → Type 0
         fewer o =
             let u = face_of T f if in
             count_strict (stronger from next x g) (stronger from next x e) faces passes u.0 u.1
-            (is_false (above? (Power from next u.0 x *ℤ Area from next g -ℤ Power from next g x *ℤ Area from next u.0))
+            (false_from_ne_true (above? (Power from next u.0 x *ℤ Area from next g -ℤ Power from next g x *ℤ Area from next u.0))
             (λ h. clash_zero (above?→ (Power from next u.0 x *ℤ Area from next g -ℤ Power from next g x *ℤ Area from next u.0) h) (same (u.3 x ∙ sym (power x)) (u.2 ∙ sym area))))
             (above?← (Power from next u.0 x *ℤ Area from next e -ℤ Power from next e x *ℤ Area from next u.0)
             (power_rises o by ap₂ (λ (p q : ℤ). p *ℤ Area from next e -ℤ Power from next e x *ℤ q) (u.3 x) u.2))
@@ -116,15 +117,15 @@ module _ {E : Type 0} {from : E → Site} {next : E → E} {Inner : E → Type 0
               keep v i t =
                   let on? = zero? (Power from next g v.at) in let right? = above? (neg_ℤ (Orient (from g) (from (next g)) v)) in
                   let on : Incircle b a d v ≡ pos 0 = sym (power_across v.at) ∙ sym (power v.at) ∙ zero?→ (Power from next g v.at) (and_left on? right? t) in
-                  and← (zero? (Power from next e v.at)) (above? (neg_ℤ (Orient a b v)))
+                  and_from (zero? (Power from next e v.at)) (above? (neg_ℤ (Orient a b v)))
                   (zero?← (Power from next e v.at) (same_circle_back a b (from (next (next e))) d v o bad on))
                   (above?← (neg_ℤ (Orient a b v)) (chord v on (above?→ (neg_ℤ (Orient (from g) (from (next g)) v)) (and_right on? right? t))))
 
               last : ahead from next g d ≡ false
-              last = is_false (ahead from next g d) (λ t. ends (above?→ (neg_ℤ (Orient (from g) (from (next g)) d)) (and_right (zero? (Power from next g d.at)) (above? (neg_ℤ (Orient (from g) (from (next g)) d))) t)))
+              last = false_from_ne_true (ahead from next g d) (λ t. ends (above?→ (neg_ℤ (Orient (from g) (from (next g)) d)) (and_right (zero? (Power from next g d.at)) (above? (neg_ℤ (Orient (from g) (from (next g)) d))) t)))
 
               first : ahead from next e d ≡ true
-              first = and← (zero? (Power from next e d.at)) (above? (neg_ℤ (Orient a b d))) (zero?← (Power from next e d.at) o) (above?← (neg_ℤ (Orient a b d)) (bad by sym (swap b a d)))
+              first = and_from (zero? (Power from next e d.at)) (above? (neg_ℤ (Orient a b d))) (zero?← (Power from next e d.at) o) (above?← (neg_ℤ (Orient a b d)) (bad by sym (swap b a d)))
 
           lower : measure from next faces vertices x g < measure from next faces vertices x e
           unfolding measure

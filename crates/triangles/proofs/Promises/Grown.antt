@@ -1,7 +1,8 @@
 -- The vertices in memory after a point came: as the list of vertices is to be, with the point's number found in it.
 use Rattle.std.proofs.Common.{◌≡◌, ℕ, suc, ◌+◌, ◌<◌, true, eqb, ◌≢◌, List, [], ◌∷◌, ◌++◌, length, sym, refl, ap, ◌∙◌, ap₂, inl, inr, arith}
 use Rattle.exact.specs.Plane.{each, up_to, Point, point, Vertex, vertex, vertex_at, same_spot}
-use Rattle.exact.proofs.Booleans.{and←, eqb_same, true_false}
+use Rattle.std.proofs.lemmas.Bool.{and_from}
+use Rattle.exact.proofs.Booleans.{eqb_same, true_false}
 use Rattle.exact.proofs.Lists.{any_false→, in_each, up_to←}
 use Rattle.dcel.specs.Layout.{Size}
 use Rattle.dcel.specs.Map.{Map}
@@ -51,7 +52,7 @@ module _ (s : Size) (m : List ℕ) where
 
     pub nowhere : found (vertices_of s m) (point x y) ≡ [] → NoneAt s m (point x y)
     nowhere e v h q =
-        true_false (same_spot (place_of s m v) (point x y)) (ap (λ (p : Point). same_spot p (point x y)) q ∙ and← (eqb x x) (eqb y y) (eqb_same x) (eqb_same y))
+        true_false (same_spot (place_of s m v) (point x y)) (ap (λ (p : Point). same_spot p (point x y)) q ∙ and_from (eqb x x) (eqb y y) (eqb_same x) (eqb_same y))
         (any_false→ (λ u. same_spot u.at (point x y)) (vertices_of s m) (found_none 0 (vertices_of s m) (point x y) e) (vertex_of (sites_of s m) v)
         (in_each (vertex_of (sites_of s m)) (up_to (vertices_in s m)) v (up_to← (vertices_in s m) v h)))
 
@@ -99,4 +100,4 @@ module _ (s : Size) (m : List ℕ) where
       found_grown e =
           let number : 0 + length (vertices_of s m) ≡ last = omega (arith, vertices_length s m) in
           ap (λ (vs : List Vertex). found vs (point x y)) vertices_grown
-          ∙ found_end 0 (vertices_of s m) (vertex x y d) (point x y) e (and← (eqb x x) (eqb y y) (eqb_same x) (eqb_same y)) ∙ ap (λ (k : ℕ). k ∷ []) number
+          ∙ found_end 0 (vertices_of s m) (vertex x y d) (point x y) e (and_from (eqb x x) (eqb y y) (eqb_same x) (eqb_same y)) ∙ ap (λ (k : ℕ). k ∷ []) number

@@ -1,7 +1,8 @@
 -- A point is put in: refused if a coordinate is too large or there is no room, and otherwise its number is shown.
 use Rattle.std.proofs.Common.{◌≡◌, ℕ, ◌<◌, Bool, true, false, ◌&&◌, ltb, leb, List, [], ◌∷◌, length, Some, None, sym, refl, ap, ◌∙◌, ap₂, inl, inr, arith}
 use Rattle.exact.specs.Plane.{pick, none_of, point}
-use Rattle.exact.proofs.Booleans.{either, true_false, and_left, and_right, ltb→, leb→, leb_false→}
+use Rattle.std.proofs.lemmas.Bool.{cases_Bool, ltb-true, leb-true, leb-false}
+use Rattle.exact.proofs.Booleans.{true_false, and_left, and_right}
 use Rattle.dcel.specs.Layout.{Size, header, total}
 use Rattle.dcel.specs.Memory.{cell, vertices_in, vertex_count}
 use Rattle.dcel.specs.Geometry.{triangles}
@@ -63,10 +64,10 @@ module _ (s : Size) (c_is : s.coordinates ≡ 1048576) (v_is : s.vertices ≡ 16
 
   module _ (q : in_square s m a b d ≡ true) where
     abbrev a_in : a < s.coordinates
-    a_in = ltb→ a s.coordinates (and_left (ltb a s.coordinates) (ltb b s.coordinates) q)
+    a_in = ltb-true a s.coordinates (and_left (ltb a s.coordinates) (ltb b s.coordinates) q)
 
     abbrev b_in : b < s.coordinates
-    b_in = ltb→ b s.coordinates (and_right (ltb a s.coordinates) (ltb b s.coordinates) q)
+    b_in = ltb-true b s.coordinates (and_right (ltb a s.coordinates) (ltb b s.coordinates) q)
 
     law : InsertionLaw s m a b
     law = inserted_law s m (omega arith) t a b a_in b_in
@@ -90,7 +91,7 @@ module _ (s : Size) (c_is : s.coordinates ≡ 1048576) (v_is : s.vertices ≡ 16
       no_room : leb s.vertices (length (vertices_of s m)) ≡ true → Answered s m h (insert a b d)
       unfolding machine machine_step core none_of
       no_room l =
-          let full : vertices_in s m ≡ s.vertices = omega (arith, leb→ s.vertices (length (vertices_of s m)) l, vertices_length s m, at_most_below s.vertices (cell s header m vertex_count)) in
+          let full : vertices_in s m ≡ s.vertices = omega (arith, leb-true s.vertices (length (vertices_of s m)) l, vertices_length s m, at_most_below s.vertices (cell s header m vertex_count)) in
           answered s m h (insert a b d) 1 h (ran m [] 7)
           (runs_refused (machine s) m (said (insert a b d)) [] 0 m 7 (put_full s m a b d q e (law.full (nowhere s m a b f) full).0) (omega arith) (omega arith))
           (goes_refused h (insert a b d) m 7 refl (refusal_is ∙ rw (q, f, l) refl) (omega arith)) (stands_itself s m t)
@@ -98,7 +99,7 @@ module _ (s : Size) (c_is : s.coordinates ≡ 1048576) (v_is : s.vertices ≡ 16
       one_more : leb s.vertices (length (vertices_of s m)) ≡ false → Answered s m h (insert a b d)
       unfolding core none_of After vertices_after changes Shown inserted
       one_more l =
-          let room : vertices_in s m < s.vertices = omega (arith, leb_false→ s.vertices (length (vertices_of s m)) l, vertices_length s m) in
+          let room : vertices_in s m < s.vertices = omega (arith, leb-false s.vertices (length (vertices_of s m)) l, vertices_length s m) in
           let i = law.new (nowhere s m a b f) room in
           let r : Added s m a b d n = i.1 d in
           let z : length n ≡ total s = standing_long s n r.standing in
@@ -109,8 +110,8 @@ module _ (s : Size) (c_is : s.coordinates ≡ 1048576) (v_is : s.vertices ≡ 16
           (ap (λ (l : List ℕ). l ∷ []) (sym (found_grown s m a b d r f)))) (stands_alike (end_alike s n z) r.standing)
 
     by_number : (is : List ℕ) → found (vertices_of s m) (point a b) ≡ is → Answered s m h (insert a b d)
-    by_number [] f = elim (either (leb s.vertices (length (vertices_of s m)))) [ inl l ↦ no_room f l | inr l ↦ one_more f l ]
+    by_number [] f = elim (cases_Bool (leb s.vertices (length (vertices_of s m)))) [ inl l ↦ no_room f l | inr l ↦ one_more f l ]
     by_number (v ∷ is) f = there_already v (f ∙ ap (λ (l : List ℕ). v ∷ l) (found_alone 0 (vertices_of s m) (point a b) v is f))
 
   pub insert_answered : Answered s m h (insert a b d)
-  insert_answered = elim (either (in_square s m a b d)) [ inl q ↦ by_number q (found (vertices_of s m) (point a b)) refl | inr q ↦ too_far q ]
+  insert_answered = elim (cases_Bool (in_square s m a b d)) [ inl q ↦ by_number q (found (vertices_of s m) (point a b)) refl | inr q ↦ too_far q ]

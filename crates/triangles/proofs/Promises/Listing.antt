@@ -2,7 +2,7 @@
 use Rattle.std.proofs.Common.{◌≡◌, ℕ, zero, suc, ◌+◌, ◌-◌, ◌<◌, ◌≤◌, true, false, ltb, List, [], ◌∷◌, ◌++◌, length, sym, refl, ap, ◌∙◌, ap₂, true≢false, append_assoc, append-nil, arith}
 use mathlib.Core.Path.{fun_ext}
 use Rattle.exact.specs.Plane.{each, up_to, Tri}
-use Rattle.exact.proofs.Booleans.{ltb←, ltb_false←}
+use Rattle.std.proofs.lemmas.Bool.{lt-ltb, le-ltb}
 use Rattle.dcel.specs.Layout.{Size, header, total}
 use Rattle.dcel.specs.Map.{Map}
 use Rattle.dcel.specs.Memory.{cell, put, map_of, faces_in}
@@ -66,13 +66,13 @@ module _ (s : Size) (m : List ℕ) (z : length m ≡ total s) where
     face_next : (i : ℕ) → i + 1 < faces_in s m → next_face s l i ≡ does (shown i) (shows (row_of (face_tri M (i + 1))))
     unfolding next_face
     face_next i h =
-        let q : ltb (i + 1) (faces_in s l) ≡ true = ltb← (i + 1) (faces_in s l) (omega (arith, faces_are)) in
+        let q : ltb (i + 1) (faces_in s l) ≡ true = lt-ltb (i + 1) (faces_in s l) (omega (arith, faces_are)) in
         rw q (ap (λ (x : Map). does (shown i) (shows (row_of (face_tri x (i + 1))))) (map_alike a))
 
     face_none : (i : ℕ) → faces_in s m ≤ i + 1 → next_face s l i ≡ does (at_end s l) done
     unfolding next_face
     face_none i h =
-        let q : ltb (i + 1) (faces_in s l) ≡ false = ltb_false← (i + 1) (faces_in s l) (omega (arith, faces_are)) in
+        let q : ltb (i + 1) (faces_in s l) ≡ false = le-ltb (i + 1) (faces_in s l) (omega (arith, faces_are)) in
         rw q refl
 
     goes_on : (i : ℕ) → going_on s (shown i) ≡ next_face s (shown i) (i + 1)

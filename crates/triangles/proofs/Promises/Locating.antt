@@ -1,7 +1,8 @@
 -- A place is looked up: its row tells what is there, and memory that lets the next walk start there stands for the same.
 use Rattle.std.proofs.Common.{◌≡◌, ℕ, ◌<◌, ◌≤◌, Bool, true, false, ◌&&◌, eqb, List, length, sym, refl, ap, ◌∙◌, subst, inl, inr, arith}
 use Rattle.exact.specs.Plane.{Point, point, same_spot}
-use Rattle.exact.proofs.Booleans.{true_false, eqb→, eqb←, eqb_same, and_left, and_right, and←}
+use Rattle.std.proofs.lemmas.Bool.{eqb-true, eq-eqb, and_from}
+use Rattle.exact.proofs.Booleans.{true_false, eqb_same, and_left, and_right}
 use Rattle.dcel.specs.Layout.{Size, header}
 use Rattle.dcel.specs.Memory.{cell, half_edges_in, vertices_in}
 use Rattle.dcel.specs.Start.{Bare}
@@ -33,20 +34,20 @@ module _ (s : Size) (m : List ℕ) (x y : ℕ) where
   module _ (k : ℕ) (few : k ≤ 1) (b : Bare s k m) where
     bare_located : located s m (point x y) ≡ where_alone s m (point x y)
     unfolding located
-    bare_located = rw (eqb← (half_edges_in s m) 0 b.half_edges_are) refl
+    bare_located = rw (eq-eqb (half_edges_in s m) 0 b.half_edges_are) refl
 
     there : at_first ≡ true → Told (on_vertex 0)
     unfolding Located
     there t =
-        let one : vertices_in s m ≡ 1 = eqb→ (vertices_in s m) 1 (and_left (eqb (vertices_in s m) 1) (same_spot (place_of s m 0) (point x y)) t) in
+        let one : vertices_in s m ≡ 1 = eqb-true (vertices_in s m) 1 (and_left (eqb (vertices_in s m) 1) (same_spot (place_of s m 0) (point x y)) t) in
         inl (0, refl, one_found s m x y 0 (omega arith) (same_place (place_of s m 0) x y refl (and_right (eqb (vertices_in s m) 1) (same_spot (place_of s m 0) (point x y)) t)) (λ u h q. omega arith))
 
     none : at_first ≡ false → NoneAt s m (point x y)
     none f v h q =
         let one : vertices_in s m ≡ 1 = omega (arith, b.vertices_are) in
         let first : v ≡ 0 = omega arith in
-        true_false at_first (and← (eqb (vertices_in s m) 1) (same_spot (place_of s m 0) (point x y)) (eqb← (vertices_in s m) 1 one)
-        (ap (λ (r : Point). same_spot r (point x y)) (ap (place_of s m) (sym first) ∙ q) ∙ and← (eqb x x) (eqb y y) (eqb_same x) (eqb_same y))) f
+        true_false at_first (and_from (eqb (vertices_in s m) 1) (same_spot (place_of s m 0) (point x y)) (eq-eqb (vertices_in s m) 1 one)
+        (ap (λ (r : Point). same_spot r (point x y)) (ap (place_of s m) (sym first) ∙ q) ∙ and_from (eqb x x) (eqb y y) (eqb_same x) (eqb_same y))) f
 
     nowhere : at_first ≡ false → Told no_edge
     unfolding Located

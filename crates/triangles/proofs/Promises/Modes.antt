@@ -2,7 +2,7 @@
 use Rattle.std.proofs.Common.{◌≡◌, ℕ, ◌*◌, ◌%◌, ◌<◌, ◌≤◌, List, [], length, sym, refl, ap, ◌∙◌, subst, ap₂, inl, inr, arith}
 use mathlib.Core.Path.{fun_ext}
 use Rattle.exact.specs.Plane.{each, up_to, Point, point, Vertex, vertex}
-use Rattle.exact.proofs.Booleans.{eqb_false←}
+use Rattle.std.proofs.lemmas.Bool.{ne_eqb}
 use Rattle.dcel.specs.Layout.{Size, Table, header, vertex_x, vertex_y, vertex_data, vertex_out, edge_next, edge_prev, edge_face, edge_origin, face_edge, worklist, total}
 use Rattle.dcel.specs.Map.{Map}
 use Rattle.dcel.specs.Mesh.{Mesh}
@@ -48,7 +48,7 @@ head_put s m i v z h l = record {
 }
   where
     kept : (j : ℕ) → j < 5 → cell s header (put s header m i v) j ≡ cell s header m j
-    kept j b = cell_same s header m i v j z l ∙ rw (eqb_false← j i (λ e. omega arith)) refl
+    kept j b = cell_same s header m i v j z l ∙ rw (ne_eqb j i (λ e. omega arith)) refl
 
 -- the next walk starts at another half edge
 pub resumed_alike : (s : Size) (m : List ℕ) (e : ℕ) → total s ≤ length m → (cell s header m last_edge < half_edges_in s m → e < half_edges_in s m) → Alike s m (resumed s m e)
@@ -56,7 +56,7 @@ unfolding resumed
 resumed_alike s m e z h = record {
   long = length_put s header m last_edge e;
   table = λ k o j. cell_other s k header m last_edge e j o;
-  head = λ j b. cell_same s header m last_edge e j z (omega arith) ∙ rw (eqb_false← j last_edge (λ q. omega arith)) refl;
+  head = λ j b. cell_same s header m last_edge e j z (omega arith) ∙ rw (ne_eqb j last_edge (λ q. omega arith)) refl;
   last = λ b. omega (arith, h b, cell_same s header m last_edge e last_edge z (omega arith));
 }
 

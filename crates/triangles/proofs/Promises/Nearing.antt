@@ -2,7 +2,8 @@
 use Rattle.std.proofs.Common.{◌≡◌, ℕ, ◌<◌, ◌≤◌, true, not, List, [], ◌∷◌, length, Some, None, Option, sym, refl, ap, ◌∙◌, subst, ap₂, inl, inr, arith}
 use Rattle.exact.specs.Plane.{or, Point, point, Vertex, spot, Tri, joined, square, minus, above_0, all_numbers}
 use Rattle.exact.specs.Distance.{squared}
-use Rattle.exact.proofs.Booleans.{either, or_left, or_right, not←}
+use Rattle.std.proofs.lemmas.Bool.{cases_Bool, not_from_false}
+use Rattle.exact.proofs.Booleans.{or_left, or_right}
 use Rattle.exact.proofs.Lists.{every←, up_to→}
 use Rattle.exact.proofs.Vertices.{vertex_number}
 use Rattle.exact.proofs.Geometry.Words.{Site}
@@ -77,8 +78,8 @@ module _ (s : Size) (m : List ℕ) (x y : ℕ) where
     in_v = S.origin_in e in_e
 
     farther? : (k : ℕ) → k < length vs → or (not (joined vs ts v k)) (not (above_0 (minus (square (point x y) (spot vs v)) (square (point x y) (spot vs k))))) ≡ true
-    farther? k l = elim (either (joined vs ts v k)) [
-      | inr f ↦ or_left (not (joined vs ts v k)) _ (not← (joined vs ts v k) f)
+    farther? k l = elim (cases_Bool (joined vs ts v k)) [
+      | inr f ↦ or_left (not (joined vs ts v k)) _ (not_from_false (joined vs ts v k) f)
       | inl t ↦
           let r = joined_by vs S (spots_geometric s m T.settled.held) (sym (vertices_length s m)) v k t in let j = r.1 in
           let near : squared (place_of s m v) (point x y) ≤ squared (place_of s m k) (point x y) = rw j.to_is at ((nearest_right s m T x y hx hy).1 r.0 j.in_e j.from_is) in

@@ -2,7 +2,8 @@
 use Rattle.std.proofs.Common.{◌≡◌, ℕ, ◌<◌, ◌≤◌, true, false, not, ◌&&◌, eqb, ◌≢◌, List, [], ◌∷◌, length, sym, refl, ap, ◌∙◌, inl, inr, arith}
 use borrow.Author.Differences.{ints}
 use Rattle.exact.specs.Plane.{any, Point, point, Vertex, spot, Tri, same_tri, inside_tri, left_of, on_segment, on_a_line, joined, all_numbers}
-use Rattle.exact.proofs.Booleans.{is_false, and_right, and3←, or_left, or_right, not←, eqb_same}
+use Rattle.std.proofs.lemmas.Bool.{false_from_ne_true, not_from_false}
+use Rattle.exact.proofs.Booleans.{and_right, and3←, or_left, or_right, eqb_same}
 use Rattle.exact.proofs.Lists.{any←, any_false←, up_to→}
 use Rattle.exact.proofs.Algebra.Signs.{zero_sign_neg}
 use Rattle.exact.proofs.Geometry.Words.{Site, On, Apart, Between, Within}
@@ -125,7 +126,7 @@ module _ (s : Size) (m : List ℕ) (H : Held s m) (x y : ℕ) where
     on_none : ((c d : ℕ) → c < vertices_in s m → d < vertices_in s m → Between (site G c) (site G d) p → ⊥) → on_an_edge (house_of s m) (point x y) ≡ false
     unfolding on_an_edge
     on_none f = any_false← (λ c. any (λ d. joined vs ts c d && on_segment (spot vs c) (spot vs d) (point x y)) (all_numbers vs)) (all_numbers vs) (λ c i. any_false← (λ d. joined vs ts c d && on_segment (spot vs c) (spot vs d) (point x y)) (all_numbers vs) (λ d j.
-        is_false (joined vs ts c d && on_segment (spot vs c) (spot vs d) (point x y)) (λ k.
+        false_from_ne_true (joined vs ts c d && on_segment (spot vs c) (spot vs d) (point x y)) (λ k.
         let hc : c < vertices_in s m = omega (arith, up_to→ (length vs) c i, len) in let hd : d < vertices_in s m = omega (arith, up_to→ (length vs) d j, len) in
         f c d hc hd (on_segment→ (site G c) (site G d) p
         (sym (λ i. on_segment (spot_of s m c hc i) (spot_of s m d hd i) (point x y)) ∙ and_right (joined vs ts c d) (on_segment (spot vs c) (spot vs d) (point x y)) k) (away c hc) (away d hd)))))
@@ -140,7 +141,7 @@ module _ (s : Size) (m : List ℕ) (H : Held s m) (x y : ℕ) where
       not_on : on_segment (spot vs (M.origin e)) (spot vs (M.origin (twin e))) (point x y) ≡ false
       not_on =
           (λ i. on_segment (a_is e h i) (b_is e h i) (point x y))
-          ∙ is_false (on_segment (pos (M.origin e)) (pos (M.origin (twin e))) (point x y)) (λ t.
+          ∙ false_from_ne_true (on_segment (pos (M.origin e)) (pos (M.origin (twin e))) (point x y)) (λ t.
           let near = between_nearer (start G e) (stop G e) p (on_segment→ (start G e) (stop G e) p t (away (M.origin e) (S.origin_in e h)) (away (M.origin (twin e)) (stop_in S e h))) in
           omega (arith, ints, near, between_nearer (start G e) p (stop G e) k))
 
@@ -149,7 +150,7 @@ module _ (s : Size) (m : List ℕ) (H : Held s m) (x y : ℕ) where
       past_it =
           let a = spot vs (M.origin e) in let b = spot vs (M.origin (twin e)) in
           or_right (left_of a b (point x y)) (not (left_of b a (point x y)) && (on_a_line vs && not (on_segment a b (point x y))))
-          (and3← (not (left_of b a (point x y))) (on_a_line vs) (not (on_segment a b (point x y))) (not← (left_of b a (point x y)) not_left) (no_face_line vs S L len flat) (not← (on_segment a b (point x y)) not_on))
+          (and3← (not (left_of b a (point x y))) (on_a_line vs) (not (on_segment a b (point x y))) (not_from_false (left_of b a (point x y)) not_left) (no_face_line vs S L len flat) (not_from_false (on_segment a b (point x y)) not_on))
 
   pub placed : (w : Where) → RightPlace s m (point x y) w → Located (house_of s m) (point x y) (place_row s m w)
   unfolding Located beyond_edge

@@ -1,7 +1,8 @@
 -- The machine's memory starts with zeros, keeps its length, and its numbers stay below 2^64, whatever is said.
 use Rattle.std.proofs.Common.{◌≡◌, ℕ, zero, suc, ◌+◌, ◌<◌, ◌≤◌, true, ◌&&◌, eqb, ltb, List, [], ◌∷◌, length, Some, None, Option, sym, refl, subst, arith}
 use Rattle.exact.specs.Plane.{every}
-use Rattle.exact.proofs.Booleans.{and_left, and_right, and←, ltb→, ltb←}
+use Rattle.std.proofs.lemmas.Bool.{and_from, ltb-true, lt-ltb}
+use Rattle.exact.proofs.Booleans.{and_left, and_right}
 use Rattle.dcel.specs.Layout.{Size, header, total}
 use Rattle.dcel.specs.Memory.{cell, faces_in}
 use Rattle.dcel.proofs.Steady.Writes.{Keeping}
@@ -38,7 +39,7 @@ module _ (s : Size) (P : List ℕ → Type 0) (W : ℕ → Type 0) (K : Keeping 
   next_face_keeps : (m : List ℕ) (i : ℕ) → P m → Kept (next_face s m i)
   unfolding next_face
   next_face_keeps m i p = picked Kept (ltb (i + 1) (faces_in s m)) _ _
-      (λ e. K.written header cursor (K.written header mode p (K.few (omega arith))) (K.few (omega (arith, ltb→ (i + 1) (faces_in s m) e, (counted s m).faces_few)))) (λ e. end_keeps m p)
+      (λ e. K.written header cursor (K.written header mode p (K.few (omega arith))) (K.few (omega (arith, ltb-true (i + 1) (faces_in s m) e, (counted s m).faces_few)))) (λ e. end_keeps m p)
 
   put_in_keeps : (m : List ℕ) (a b d : ℕ) → P m → Kept (put_in s m a b d)
   unfolding put_in
@@ -72,12 +73,12 @@ module _ (limit : ℕ) where
   below→ : (m : List ℕ) → every (λ v. ltb v limit) m ≡ true → AllBelow limit m
   unfolding every
   below→ [] e = tt
-  below→ (x ∷ m) e = (ltb→ x limit (and_left (ltb x limit) _ e), below→ m (and_right (ltb x limit) _ e))
+  below→ (x ∷ m) e = (ltb-true x limit (and_left (ltb x limit) _ e), below→ m (and_right (ltb x limit) _ e))
 
   below← : (m : List ℕ) → AllBelow limit m → every (λ v. ltb v limit) m ≡ true
   unfolding every
   below← [] h = refl
-  below← (x ∷ m) h = and← (ltb x limit) _ (ltb← x limit h.0) (below← m h.1)
+  below← (x ∷ m) h = and_from (ltb x limit) _ (lt-ltb x limit h.0) (below← m h.1)
 
 step_length : (s : Size) (m : List ℕ) (ev : Event) → length (machine_step s m ev).memory ≡ length m
 step_length s m ev = step_keeps s _ _ (length_keeping s (length m)) (λ a b d e. (tt, tt, tt)) m ev refl
@@ -86,9 +87,9 @@ module _ (s : Size) (h : Moderate s) where
   entering : (a b d : ℕ) → small_enough s a b d ≡ true → (a < 18446744073709551616) × (b < 18446744073709551616) × (d < 18446744073709551616)
   entering a b d e =
       let ab = and_left (ltb a s.coordinates && ltb b s.coordinates) (ltb d 18446744073709551616) e in
-      let la : a < s.coordinates = ltb→ a s.coordinates (and_left (ltb a s.coordinates) (ltb b s.coordinates) ab) in
-      let lb : b < s.coordinates = ltb→ b s.coordinates (and_right (ltb a s.coordinates) (ltb b s.coordinates) ab) in
-      (omega arith, omega arith, ltb→ d 18446744073709551616 (and_right (ltb a s.coordinates && ltb b s.coordinates) (ltb d 18446744073709551616) e))
+      let la : a < s.coordinates = ltb-true a s.coordinates (and_left (ltb a s.coordinates) (ltb b s.coordinates) ab) in
+      let lb : b < s.coordinates = ltb-true b s.coordinates (and_right (ltb a s.coordinates) (ltb b s.coordinates) ab) in
+      (omega arith, omega arith, ltb-true d 18446744073709551616 (and_right (ltb a s.coordinates && ltb b s.coordinates) (ltb d 18446744073709551616) e))
 
   step_small : (m : List ℕ) (ev : Event) → all_small m ≡ true → all_small (machine_step s m ev).memory ≡ true
   unfolding all_small

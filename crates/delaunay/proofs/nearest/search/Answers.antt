@@ -1,16 +1,14 @@
-use Rattle.std.proofs.Common.{rules}
-use Rattle.delaunay.specs.Nearest.{nearest_fuel, searched}
-use Rattle.delaunay.proofs.Loops.{iterate_none, iterate_stop, iterate_on}
+use Rattle.std.proofs.Common.{◌≡◌, ap, subst, rules}
+use Rattle.exact.specs.Verdicts.{at}
+use Rattle.dcel.specs.Layout.{real}
+use Rattle.delaunay.specs.Iterate.{iterate}
+use Rattle.delaunay.specs.Nearest.{Look, look, look_of, looked, nearest_fuel, searched}
+use Rattle.delaunay.proofs.Loops.{iterates_is}
 use Rattle.delaunay.proofs.nearest.search.Goals as goal
-use Rattle.delaunay.proofs.nearest.search.Goals.{else-searching-test, then-searching-test+in_default}
-
-pub searching-init : goal.searching-init
-unfolding nearest_fuel
-searching-init c = search rules
-
-pub searching-preserved : goal.searching-preserved
-searching-preserved c = search (rules, iterate_on)
 
 pub returns : goal.returns
-unfolding searched
-returns c = elim c.searching-test.branch [ else-searching-test w ↦ search (rules, iterate_none) | then-searching-test+in_default w ↦ search (rules, iterate_stop) ]
+unfolding searched nearest_fuel
+returns c =
+    let look_on = looked real c.args.memory.now (at c.args.goal) in
+    subst (λ d. c.iterate.result.edge.0 ≡ (iterate look_on (nearest_fuel real) (look c.args.start.0 c.args.start.0 d)).edge) c.far.ensures
+    (ap (λ (l : Look). l.edge) (iterates_is _ look_of look_on (λ l o h. search rules) _ _ _ c.iterate.ensures))

@@ -1,19 +1,10 @@
 use Rattle.std.proofs.Common.{rules}
-use Rattle.delaunay.specs.Walk.{line_fuel, along_line}
-use Rattle.delaunay.proofs.Loops.{iterate_none, iterate_stop, iterate_on}
+use Rattle.exact.specs.Verdicts.{at}
+use Rattle.dcel.specs.Layout.{real}
+use Rattle.delaunay.specs.Walk.{went_on, line_fuel, along_line}
+use Rattle.delaunay.proofs.Loops.{iterates_is}
 use Rattle.delaunay.proofs.walk.follow_line.Goals as goal
 
-pub following-init : goal.following-init
-unfolding line_fuel
-following-init c = search rules
-
-pub following-preserved : goal.following-preserved
-following-preserved c = search (rules, iterate_on)
-
-pub returns-after-following : goal.returns-after-following
-unfolding along_line
-returns-after-following c = search (rules, iterate_none)
-
-pub returns-in_default : goal.returns-in_default
-unfolding along_line
-returns-in_default c = search (rules, iterate_stop)
+pub returns : goal.returns
+unfolding along_line line_fuel
+returns c = iterates_is _ (λ e. e.0) (went_on real c.args.memory.now (at c.args.goal)) (λ e o h. search rules) _ _ _ c.iterate.ensures

@@ -1,7 +1,0 @@
-use Rattle.std.proofs.Common.{rules}
-use Rattle.dcel.specs.Memory.{put}
-use Rattle.dcel.proofs.writers.set_out.Goals as goal
-
-pub returns : goal.returns
-unfolding put
-returns c = search rules
