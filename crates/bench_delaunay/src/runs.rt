@@ -56,7 +56,7 @@ fn flips(memory: &mut Memory, n: u64) {
     }
 }
 
-// One face, and then n vertices inside it.
+// One face, and then n vertices inside it, each with its number for its data.
 fn splits(memory: &mut Memory, n: u64) {
     face(memory);
     for i in 0..n {
@@ -64,7 +64,7 @@ fn splits(memory: &mut Memory, n: u64) {
     }
 }
 
-// Pseudo-random positions, one after another. The same as in the other benchmark, since each program is a crate of its own.
+// Pseudo-random positions, one after another. The same as in the other benchmark, since each program is a crate of its own. An Iterator would want its laws for this one method.
 #[derive(Clone, Copy)]
 struct Generator {
     seed: u64,

@@ -14,7 +14,7 @@ pub struct Counts {
     pub above: u64,
 }
 
-// Pseudo-random positions, one after another. The same as in the other benchmark, since each program is a crate of its own.
+// Pseudo-random positions, one after another. The same as in the other benchmark, since each program is a crate of its own. An Iterator would want its laws for this one method.
 #[derive(Clone, Copy)]
 struct Generator {
     seed: u64,

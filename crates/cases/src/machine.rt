@@ -46,7 +46,7 @@ impl Machine {
         Ok(number)
     }
 
-    // All faces, unless the answer is something else than rows of three and then the end.
+    // All faces, unless the answer is something else than rows of three and then the end. keyboard and survey have loops of their own, as crates that do other things with a row.
     pub fn faces(&mut self) -> Result<Vec<Row>, Fault> {
         let mut rows = Vec::new(self.heap);
         let mut row = [0; ROW];

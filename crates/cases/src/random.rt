@@ -32,7 +32,7 @@ impl Random {
 
     pub fn shuffle(&mut self, points: &mut [Point]) {
         let n = points.len();
-        // Each step swaps two places, so the loop goes over indices.
+        // Each step swaps two places, so the loop goes over indices; the library's shuffle draws other numbers.
         for i in 0..n {
             let j = self.bits() as usize % n;
             points.swap(i, j);

@@ -1,4 +1,4 @@
-// A new vertex on a line, where there is no face yet. It gets the number that follows the last, which is returned. Each surgery writes the change that its contract cites, in that order, so they share no lines.
+// A new vertex on a line, where there is no face yet. It gets the number that follows the last, which is returned. Each surgery writes the change that its contract cites, in that order, so the lines that some have alike are in no function of their own.
 ghost use Rattle.std.specs.Prelude.{◌≡◌};
 ghost use Rattle.dcel.specs.Layout.{real};
 ghost use Rattle.dcel.specs.Memory.{vertices_in};

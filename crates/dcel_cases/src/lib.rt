@@ -74,6 +74,7 @@ mod tests {
         assert_eq!(rt; before, 3);
     }
 
+    // Shorter than the literal; bench_delaunay has the like, in a crate of its own.
     fn site(x: u64, y: u64, data: u64) -> Site {
         Site { x, y, data }
     }

@@ -1,4 +1,4 @@
-// Where a point is, and where the next walk starts. Memory and goal stay two parameters: most calls read memory alone, and a struct would put its name before each.
+// Where a point is, and where the next walk starts. Memory and goal stay two parameters: more than half of the calls read memory alone, and a struct would put its name before each.
 ghost use Rattle.std.specs.Prelude.{◌≡◌};
 ghost use Rattle.exact.specs.Verdicts.{at};
 ghost use Rattle.dcel.specs.Layout.{real};

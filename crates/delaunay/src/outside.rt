@@ -45,7 +45,7 @@ fn close(memory: &mut Memory, e: EdgeId)
     push_face(memory, e);
 }
 
-// Closes ears from `start` while there is one. The way is data, as in the definition; a closure for it would want its contract as a relation.
+// Closes ears from `start` while there is one. The way is data, as in the definition; a closure for it would want its contract as a relation. It is no `iterate`: it changes memory, which a step would have to lend and give back.
 fn close_all(memory: &mut Memory, p: Position, start: EdgeId, way: Way)
     ensures { memory.new ≡ ears_closed real way (at p) memory.old start.0 }
 {
@@ -66,6 +66,7 @@ pub fn insert_outside(memory: &mut Memory, e: EdgeId, p: Position, data: u64)
     ensures { memory.new ≡ put_outside real memory.old e.0 p.x p.y «data» }
 {
     let new = half_edges(memory);
+    // No From: neither type is of this crate.
     attach(
         memory,
         e,

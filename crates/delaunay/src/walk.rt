@@ -1,5 +1,5 @@
 // Walking to a point: across faces, and along a line. Both are the one loop with a step of their own.
-// Memory and goal stay two parameters here and where a place is located: most calls read memory alone, and a struct would put its name before each.
+// Memory and goal stay two parameters here and where a place is located: more than half of the calls read memory alone, and a struct would put its name before each.
 ghost use Rattle.std.specs.Prelude.{◌≡◌};
 ghost use Rattle.std.specs.Option.{option_map};
 ghost use Rattle.exact.specs.Verdicts.{at};

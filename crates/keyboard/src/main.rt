@@ -29,7 +29,7 @@ fn answer(rt: &HostRuntime, memory: &mut [u64], line: &[u8]) -> io::Result<()> {
     }
 }
 
-// Says a command, and lets the machine go on till it ends.
+// Says a command, and lets the machine go on till it ends. survey and cases have loops of their own: each is a crate of its own, and does other things with a row.
 fn run(rt: &HostRuntime, memory: &mut [u64], request: Request) -> io::Result<()> {
     let mut out = [0u64; ROW];
     let (kind, a, b, c) = request.words();

@@ -37,6 +37,7 @@ pub fn put_points(
     memory: &mut [u64],
     places: &mut Vec<Site>,
 ) -> io::Result<()> {
+    // Of the lines only some are points, so these are counted.
     let mut count = 0u64;
     let lines = BufReader::new(rt.alloc(), file)?.split(rt.alloc(), b'\n');
     for (number, line) in (1u64..).zip(lines) {

@@ -1,4 +1,4 @@
-// Small triangulations worked out, as theorems about the definitions, a function each.
+// Small triangulations worked out, as theorems about the definitions: each function's contract is a theorem, so each is a function of its own.
 ghost use Rattle.triangles.specs.Examples.{RectangleFanned, RectangleHull, RectangleLocated, RectangleNearest, RectangleLess, SquareEitherWay, RowJoined};
 
 #[tactic(auto, using(crate::proofs::Worked::rectangle_fanned))]

@@ -19,7 +19,7 @@ pub enum Request {
 }
 
 impl Request {
-    // The kind and the three numbers by which a step is told this. A tuple of four numbers says nothing of what it is, so this is a method and no From.
+    // The kind and the three numbers by which a step is told this. A step is told by numbers, for other languages too, so the kinds are numbers here and in Event::of. A tuple of four numbers says nothing of what it is, so this is a method and no From.
     #[tactic(auto, unfolding(crate::specs::Entry::event_of))]
     pub fn words(self) -> (u64, u64, u64, u64)
         ensures { event_of result.0 result.1 result.2 result.3 ≡ said (command_of self) }
