@@ -1,91 +1,77 @@
--- The first words of a text, as the library's `split` and `filter` find them, and what they say.
-use Rattle.std.proofs.Common.{◌≡◌, ℕ, zero, suc, ◌<◌, Bool, true, false, eqb, cond, not, List, [], ◌∷◌, length, get_or, take, drop, map, Some, None, Ok, Option, Bor, nat_eq, sym, refl, ap, ◌∙◌, arith}
-use denote.Param.Members.{Mut}
-use Rattle.std.proofs.lemmas.Bool.{ne_eqb}
-use Rattle.std.proofs.lemmas.Iterator.{YieldsList}
-use Rattle.std.proofs.lemmas.Iterator.Consumers.{YieldsList-from_filter, YieldsList-at}
-use Rattle.std.proofs.lemmas.Iterator.Splits.{YieldsList-from_slice_split}
-use Rattle.std.specs.Fn.{CalledAt}
-use Rattle.std.specs.List.{filter, slice_split, slice_get, onto_first}
-use Rattle.std.specs.Option.{option_map}
-use Rattle.std.specs.declared.iter.Filter.{Filter}
-use Rattle.std.specs.declared.slice.Split.{Split}
-use Rattle.std.specs.Iterator.{YieldsThen}
-use Rattle.std.specs.Iterator.Adapters.{filter_steps, filter_source, filter_callee}
-use Rattle.std.specs.Slice.Iter.{split_steps, split_rest, split_done, split_callee}
-use Rattle.std.specs.Cmp.Lexicographic.{pointwise}
+-- The words of a text, one after another, and what they say.
+use Rattle.std.proofs.Common.{◌≡◌, ℕ, zero, suc, ◌+◌, ◌<◌, Bool, true, false, eqb, cond, not, List, [], ◌∷◌, length, get_or, take, drop, map, Some, None, Ok, Option, Bor, sym, refl, ap, ◌∙◌, ◌==◌, drop-cons, arith}
+use Rattle.std.specs.List.{position, position_or_len, slice_get}
+use Rattle.std.proofs.lemmas.List.{drop_all}
+use Rattle.std.proofs.lemmas.List.Sums.{prefix_len-le-length, prefix_len_stops}
+use Rattle.std.specs.Option.{option_map, unwrap_or}
 use Rattle.std.proofs.lemmas.Bool.Decides.{nat_tests}
 use Rattle.exact.specs.Plane.{pick, those, none_of}
 use Rattle.triangles.specs.Word.{leading, given}
-use Rattle.triangles.specs.Line.{pieces, begin, full, words, remark, unless_remark, request_of, understood, said_by}
+use Rattle.triangles.specs.Line.{pieces, begin, full, words, heard, remark, unless_remark, request_of, understood, said_by}
 use Rattle.triangles.specs.PointLine.{point_of, point_by}
 
--- the pieces and the words as the library makes them
-abbrev space : ℕ → Bool
-space b = eqb b 32
+-- ---- the next word: spaces, then the bytes up to the next one
+abbrev spaces : List ℕ → ℕ
+spaces xs = position_or_len (λ b. not (b == 32)) xs
 
-abbrev not_empty : List ℕ → Bool
-not_empty w = not (eqb (length w) 0)
+abbrev first : List ℕ → List ℕ
+first xs = take (position_or_len (λ b. b == 32) xs) xs
 
-onto_begin : (b : ℕ) (ps : List (List ℕ)) → onto_first b ps ≡ begin b ps
-onto_begin b [] = refl
-onto_begin b (p ∷ ps) = refl
+abbrev after : List ℕ → List ℕ
+after xs = drop (position_or_len (λ b. b == 32) xs) xs
 
-pieces_split : (bs : List ℕ) → slice_split space bs ≡ pieces bs
-unfolding pieces
-pieces_split [] = refl
-pieces_split (b ∷ bs) = at (eqb b 32) (pieces_split bs)
+one_more : {n : ℕ} → 1 + n ≡ suc n
+one_more = omega arith
+
+trim_words : (xs : List ℕ) → words (drop (spaces xs) xs) ≡ words xs
+unfolding pieces those none_of
+trim_words [] = refl
+trim_words (x ∷ xs) = at (eqb x 32) refl (trim_words xs)
   where
-    at : (s : Bool) → slice_split space bs ≡ pieces bs → cond s ([] ∷ slice_split space bs) (onto_first b (slice_split space bs)) ≡ pick s ([] ∷ pieces bs) (begin b (pieces bs))
-    at true e = rw e refl
-    at false e = onto_begin b _ ∙ ap (begin b) e
+    at : (s : Bool) → eqb x 32 ≡ s → words (drop (spaces xs) xs) ≡ words xs → words (drop (cond (not (not s)) (1 + spaces xs) 0) (x ∷ xs)) ≡ those full (pick s ([] ∷ pieces xs) (begin x (pieces xs)))
+    at true p e = rw one_more e
+    at false p e = rw p refl
 
-full_filter : (ws : List (List ℕ)) → filter not_empty ws ≡ those full ws
-unfolding those none_of
-full_filter [] = refl
-full_filter ([] ∷ ws) = full_filter ws
-full_filter ((b ∷ w) ∷ ws) = rw (ne_eqb (suc (length w)) 0 (λ e. omega arith), full_filter ws) refl
+-- the pieces up to the first space, and the rest
+record Cut (xs : List ℕ) : Type 0 where
+  more : List (List ℕ)
+  is : pieces xs ≡ first xs ∷ more
+  rest : words (after xs) ≡ those full more
 
-words_split : (bs : List ℕ) → filter not_empty (slice_split space bs) ≡ words bs
-words_split bs = rw (pieces_split bs) (full_filter (pieces bs))
+cut : (xs : List ℕ) → Cut xs
+unfolding pieces those none_of
+cut [] = record { more = []; is = refl; rest = refl }
+cut (x ∷ xs) = at (eqb x 32) refl (cut xs)
+  where
+    at : (s : Bool) → eqb x 32 ≡ s → Cut xs → Cut (x ∷ xs)
+    at true p c = record { more = pieces xs; is = simp p refl; rest = simp p refl }
+    at false p c = record { more = c.more; is = rw (p, c.is, one_more) refl; rest = rw (p, one_more) c.rest }
 
--- ---- the words taken one after another
-module _ {A E F : Type 0} (k : Mut E (Bor A × Unit {0}) Bool) (g : Mut F (Bor (Bor (List A)) × Unit {0}) Bool) where
-  abbrev next : Filter (Split A E) F → Option (Bor (List A)) → Filter (Split A E) F → Type 0
-  next = filter_steps (split_steps k) g
+pub no_words : words [] ≡ []
+unfolding pieces those none_of
+no_words = refl
 
-  -- after the end there is no more
-  ended : (s t : Filter (Split A E) F) → next s None t → split_done (filter_source t) ≡ true
-  ended s t e = let last = e.2.2 in ap split_done last.1 ∙ last.0
+begun : (x : ℕ) (xs : List ℕ) → eqb x 32 ≡ false → words (x ∷ xs) ≡ first (x ∷ xs) ∷ words (after (x ∷ xs))
+unfolding pieces those none_of
+begun x xs h = let c = cut xs in rw (h, one_more, c.is, c.rest) refl
 
-  stays : (t u : Filter (Split A E) F) (w : Bor (List A)) → split_done (filter_source t) ≡ true → ¬ (next t (Some w) u)
-  stays t u w d e = at e.0 e.2
-    where
-      at : (xs : List (Bor (List A))) → YieldsThen (split_steps k) (filter_source t) xs (Some w) (filter_source u) → ⊥
-      at [] y = let h : true ≡ false = sym d ∙ ap split_done y.1 ∙ y.2.0 in cc
-      at (x ∷ xs) y = let h : true ≡ false = sym d ∙ y.1.1.0 in cc
+module _ (xs : List ℕ) where
+  pub none_left : position (λ b. not (b == 32)) xs ≡ None → (None ≡ slice_get (words xs) 0) × (words [] ≡ drop 1 (words xs))
+  unfolding pieces those none_of
+  none_left e = rw (← trim_words xs, drop_all (spaces xs) xs (grind (arith, nat_tests))) (refl, refl)
 
-  abbrev Left : Filter (Split A E) F → List (List A) → Type 0
-  Left = YieldsList next (λ w. w.now)
+  word_left : (i : ℕ) → position (λ b. not (b == 32)) xs ≡ Some i → words xs ≡ first (drop i xs) ∷ words (after (drop i xs))
+  word_left i e =
+      let h : (spaces xs < length xs) × (i ≡ spaces xs) = grind (arith, nat_tests) in
+      let stops = prefix_len_stops (λ b. not (not (b == 32))) xs 0 h.0 in
+      rw (h.1, ← trim_words xs, drop-cons xs (spaces xs) 0 h.0) (begun (get_or xs (spaces xs) 0) (drop (suc (spaces xs)) xs) (grind (arith, nat_tests)))
 
-  front : (s t : Filter (Split A E) F) (r : Option (Bor (List A))) (ws : List (List A)) → Left s ws → next s r t → option_map (λ w. w.now) r ≡ slice_get ws 0
-  front s t None [] l e = refl
-  front s t None (w ∷ ws) l e = absurd (l.runs.0 t e)
-  front s t (Some x) [] l e = absurd (l.runs x t e)
-  front s t (Some x) (w ∷ ws) l e = ap Some (l.runs.1 x t e).0
+  end_is : unwrap_or (position (λ b. b == 32) xs) (length xs) ≡ position_or_len (λ b. b == 32) xs
+  end_is = let most = prefix_len-le-length (λ b. not (b == 32)) xs in grind (arith, nat_tests)
 
-  pub taken : (s t : Filter (Split A E) F) (r : Option (Bor (List A))) (more : List (Option (List A))) (n : ℕ) (ws : List (List A)) →
-      Left s ws → next s r t → (Left t (drop 1 ws) → more ≡ leading n (drop 1 ws)) → option_map (λ w. w.now) r ∷ more ≡ leading (suc n) ws
-  taken s t None more n [] l e rest = ap (λ x. None ∷ x) (rest (record { runs = λ x j. stays t j x (ended s t e) }))
-  taken s t None more n (w ∷ ws) l e rest = absurd (l.runs.0 t e)
-  taken s t (Some x) more n [] l e rest = absurd (l.runs x t e)
-  taken s t (Some x) more n (w ∷ ws) l e rest = let next = l.runs.1 x t e in rw (next.0, rest (record { runs = next.1 })) refl
-
-pub words_left : {E F : Type 0} (k : Mut E (Bor ℕ × Unit {0}) Bool) (g : Mut F (Bor (Bor (List ℕ)) × Unit {0}) Bool) {s : Filter (Split ℕ E) F} {t : Split ℕ E} (line : List ℕ) {q : E} {p : F} →
-    split_rest t ≡ line → split_done t ≡ false → split_callee t ≡ q → filter_source s ≡ t → filter_callee s ≡ p →
-    ((x : ℕ) (b : Bool) (r : E) → CalledAt k q x b r → (r ≡ q) × (b ≡ space x)) → ((x : Bor (List ℕ)) (b : Bool) (r : F) → CalledAt g p x b r → (r ≡ p) × (b ≡ not_empty x.now)) → Left k g s (words line)
-words_left k g line rest done called source filtered spaces fulls =
-    rw (← words_split line) (YieldsList-from_filter g not_empty (YieldsList-at source (YieldsList-from_slice_split k space line rest done called spaces)) filtered fulls)
+pub one_left : (line start word rest : List ℕ) (i n : ℕ) → position (λ b. not (b == 32)) line ≡ Some i → start ≡ drop i line → n ≡ unwrap_or (position (λ b. b == 32) start) (length start) →
+    word ≡ take n start → rest ≡ drop n start → (Some word ≡ slice_get (words line) 0) × (words rest ≡ drop 1 (words line))
+one_left line start word rest i n e s l w r = rw (word_left line i e, w, r, l, end_is start, s) (refl, refl)
 
 -- ---- what they say
 -- a word among the first n, told by its place
@@ -116,36 +102,10 @@ pointed x (w ∷ a ∷ []) h = refl
 pointed x (w ∷ a ∷ b ∷ []) h = cc
 pointed x (w ∷ a ∷ b ∷ c ∷ ws) h = refl
 
--- the words of a line that is no remark
-abbrev heard : List (List ℕ) → List (List ℕ)
-heard = unless_remark [] (λ ws. ws)
-
-remark_is : (w : List ℕ) → pointwise nat_eq (35 ∷ []) (take 1 w) ≡ remark w
-remark_is [] = refl
-remark_is (b ∷ w) = grind (arith, nat_tests)
-
-none_heard : (ws : List (List ℕ)) → slice_get ws 0 ≡ None → [] ≡ heard ws
-none_heard [] h = refl
-none_heard (w ∷ ws) h = cc
-
-some_heard : (w : List ℕ) (ws : List (List ℕ)) → slice_get ws 0 ≡ Some w → heard ws ≡ pick (remark w) [] ws
-some_heard w [] h = cc
-some_heard w (u ∷ ws) h = cc
-
--- how the first word is taken: there is none, it begins a remark, or it counts
-module _ {E F : Type 0} (k : Mut E (Bor ℕ × Unit {0}) Bool) (g : Mut F (Bor (Bor (List ℕ)) × Unit {0}) Bool) (s t : Filter (Split ℕ E) F) (ws : List (List ℕ)) (l : Left k g s ws) where
-  pub none_taken : next k g s None t → [] ≡ heard ws
-  none_taken e = none_heard ws (sym (front k g s t None ws l e))
-
-  module _ (w : Bor (List ℕ)) (e : next k g s (Some w) t) (r : Bool) (hash : r ≡ pointwise nat_eq (35 ∷ []) (take 1 w.now)) where
-    is : heard ws ≡ pick r [] ws
-    is = some_heard w.now ws (sym (front k g s t (Some w) ws l e)) ∙ ap (λ b. pick b [] ws) (sym (hash ∙ remark_is w.now))
-
-    pub remark_taken : r ≡ true → [] ≡ heard ws
-    remark_taken h = sym (is ∙ ap (λ b. pick b [] ws) h)
-
-    pub word_taken : r ≡ false → (more : List (Option (List ℕ))) → (Left k g t (drop 1 ws) → more ≡ leading 4 (drop 1 ws)) → Some w.now ∷ more ≡ leading 5 (heard ws)
-    word_taken h more rest = taken k g s t (Some w) more 4 ws l e rest ∙ ap (leading 5) (sym (is ∙ ap (λ b. pick b [] ws) h))
+dropped : {A : Type 0} (n : ℕ) (xs : List A) → slice_get (drop n xs) 0 ≡ slice_get xs n
+dropped zero xs = refl
+dropped (suc n) [] = refl
+dropped (suc n) (x ∷ xs) = dropped n xs
 
 module _ {A : Type 0} (nothing : A) (read : List (List ℕ) → A) where
   heeded : (v : List ℕ) (ws : List (List ℕ)) → slice_get (heard ws) 0 ≡ Some v → read (heard ws) ≡ unless_remark nothing read ws
@@ -156,17 +116,18 @@ module _ {A : Type 0} (nothing : A) (read : List (List ℕ) → A) where
       at true h = cc
       at false h = refl
 
--- what a line says, told by its first five words
-module _ (os : List (Option (Bor (List ℕ)))) (ws : List (List ℕ)) (e : map (option_map (λ w. w.now)) os ≡ leading 5 (heard ws)) where
-  at : (k : ℕ) → k < 5 → option_map (λ w. w.now) (get_or os k None) ≡ slice_get (heard ws) k
-  at = first_at os 5 (heard ws) e
+-- what a line says, told by its first four words and the one after them
+module _ (os : List (Option (Bor (List ℕ)))) (ws : List (List ℕ)) (e : map (option_map (λ w. w.now)) os ≡ leading 4 (heard ws)) where
+  at : (k : ℕ) → k < 4 → option_map (λ w. w.now) (get_or os k None) ≡ slice_get (heard ws) k
+  at = first_at os 4 (heard ws) e
 
   module _ (v : Bor (List ℕ)) (is : get_or os 0 None ≡ Some v) where
-    first : slice_get (heard ws) 0 ≡ Some v.now
-    first = sym (at 0 (omega arith)) ∙ ap (option_map (λ w. w.now)) is
+    verb : slice_get (heard ws) 0 ≡ Some v.now
+    verb = sym (at 0 (omega arith)) ∙ ap (option_map (λ w. w.now)) is
 
-    pub request_is : understood (record {}) (request_of (v.now ∷ given (map (option_map (λ w. w.now)) (get_or os 1 None ∷ get_or os 2 None ∷ get_or os 3 None ∷ get_or os 4 None ∷ [])))) ≡ said_by ws
-    request_is = rw (at 1 (omega arith), at 2 (omega arith), at 3 (omega arith), at 4 (omega arith), asked v.now (heard ws) first) (heeded (Ok None) (λ us. understood (record {}) (request_of us)) v.now ws first)
+    pub request_is : (o : Option (Bor (List ℕ))) (us : List (List ℕ)) → us ≡ drop 4 (heard ws) → option_map (λ w. w.now) o ≡ slice_get us 0 →
+        understood (record {}) (request_of (v.now ∷ given (map (option_map (λ w. w.now)) (get_or os 1 None ∷ get_or os 2 None ∷ get_or os 3 None ∷ o ∷ [])))) ≡ said_by ws
+    request_is o us r l = rw (at 1 (omega arith), at 2 (omega arith), at 3 (omega arith), l ∙ ap (λ x. slice_get x 0) r ∙ dropped 4 (heard ws), asked v.now (heard ws) verb) (heeded (Ok None) (λ us. understood (record {}) (request_of us)) v.now ws verb)
 
     pub point_is : understood (record {}) (point_of (v.now ∷ given (map (option_map (λ w. w.now)) (get_or os 1 None ∷ get_or os 2 None ∷ get_or os 3 None ∷ [])))) ≡ point_by ws
-    point_is = rw (at 1 (omega arith), at 2 (omega arith), at 3 (omega arith), pointed v.now (heard ws) first) (heeded (Ok None) (λ us. understood (record {}) (point_of us)) v.now ws first)
+    point_is = rw (at 1 (omega arith), at 2 (omega arith), at 3 (omega arith), pointed v.now (heard ws) verb) (heeded (Ok None) (λ us. understood (record {}) (point_of us)) v.now ws verb)

@@ -80,6 +80,10 @@ abbrev pub unless_remark : {A : Type 0} → A → (List (List ℕ) → A) → Li
 unless_remark nothing read [] = nothing
 unless_remark nothing read (w ∷ ws) = pick (remark w) nothing (read (w ∷ ws))
 
+-- the words of a line that is no remark
+abbrev pub heard : List (List ℕ) → List (List ℕ)
+heard = unless_remark [] (λ ws. ws)
+
 abbrev pub said_by : List (List ℕ) → Result (Option Request) NotUnderstood
 said_by = unless_remark (Ok None) (λ ws. understood (record {}) (request_of ws))
 

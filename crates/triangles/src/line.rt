@@ -5,7 +5,7 @@ ghost use Rattle.triangles.specs.Line.{line_says, request_of, alone as says_alon
 ghost use Rattle.triangles.specs.Word.{given};
 
 use crate::request::Request;
-use crate::word::{first_words, number};
+use crate::word::{first_words, next_word, number};
 use dcel::Site;
 use std::fmt;
 use std::fmt::{Display, Formatter, Write};
@@ -28,10 +28,11 @@ impl Display for NotUnderstood {
 pub fn read_line(line: &[u8]) -> Result<Option<Request>, NotUnderstood>
     ensures { result ≡ line_says line.now }
 {
-    let [verb, one, two, three, four] = first_words(line);
+    let ([verb, one, two, three], rest) = first_words(line);
     let Some(verb) = verb else {
         return Ok(None);
     };
+    let (four, _) = next_word(rest);
     let request = request(verb, one, two, three, four).ok_or(NotUnderstood)?;
     Ok(Some(request))
 }

@@ -15,7 +15,7 @@ pub struct NotAPoint;
 pub fn read_point(line: &[u8]) -> Result<Option<Site>, NotAPoint>
     ensures { result ≡ point_line line.now }
 {
-    let [one, two, three, four, _] = first_words(line);
+    let ([one, two, three, four], _) = first_words(line);
     let Some(one) = one else {
         return Ok(None);
     };

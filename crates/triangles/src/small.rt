@@ -6,7 +6,8 @@ ghost use Rattle.triangles.specs.Small.{SmallTold};
 
 use exact::plane::{circle, side};
 use exact::position::Position;
-use exact::verdict::{Circle, Side};
+pub use exact::verdict::Circle;
+use exact::verdict::Side;
 
 // Coordinates are below this.
 const LIMIT: u64 = 4096;

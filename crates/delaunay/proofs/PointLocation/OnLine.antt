@@ -111,7 +111,7 @@ module _ (s : Size) (m : List ℕ) (S : Sound (map_of s m)) (G : Geometric (plac
       enough : left_ahead S G flat e ≤ line_fuel s
       enough = omega (arith, left_ahead_bound S G flat e, line_fuel_enough s m)
 
-  -- ---- from cases_Bool half of an edge
+  -- ---- from either half of an edge
   module _ (e : ℕ) (h : e < (map_of s m).half_edges) where
     abbrev a₀ : Site
     a₀ = start G e
