@@ -10,3 +10,6 @@ pub mod PointLine
 pub mod Word
 pub mod Examples
 pub mod Small
+-- What answers are made of, so that a caller need not list the crates below.
+pub use Rattle.exact.specs.declared.verdict.Circle
+pub use Rattle.dcel.specs.declared.site.Site

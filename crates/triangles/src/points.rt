@@ -1,4 +1,4 @@
-// Reading a line of text as a point, in five lines like those of a request but for the error and the number of words.
+// Reading a line of text as a point, in lines like those of a request but for the error and the number of words.
 ghost use Rattle.std.specs.Prelude.{◌≡◌, [], ◌∷◌, map};
 ghost use Rattle.std.specs.Option.{option_map};
 ghost use Rattle.triangles.specs.PointLine.{point_line, point_of};
